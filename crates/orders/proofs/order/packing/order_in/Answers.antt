@@ -1,0 +1,12 @@
+use borrow.Author.Needs.{needs}
+use Rattle.orders.proofs.LampOrders.{field-fits, field-holds}
+use Rattle.orders.proofs.order.packing.order_in.Needs as need
+
+pub ghost-result-2 : need.ghost-result-2
+ghost-result-2 c =
+    (field-fits (c .args .field .now) (c .pre) (c .period-in .result) (c .of .result) (c .period-in .ensures) (c .of .ensures), tt)
+
+pub returns : need.returns
+returns c =
+    field-holds (c .args .field .now) (c .pre) (c .period-in .result) (c .of .result) (c .period-in .ensures) (c .of .ensures)
+    (search needs) (search needs)

@@ -1,0 +1,134 @@
+//! How lamp orders are made, packed and ranked.
+ghost use mathlib.Core.Path.{_≡_};
+ghost use Rattle.std.specs.Options.{okOr, valueOr};
+ghost use Rattle.std.specs.declared.option.Option.the-variants.{Some, None};
+ghost use Rattle.orders.specs.Characters.{codeOf, countOf, periodOf, countFits, periodFits};
+ghost use Rattle.orders.specs.Fault.{unreadableAt};
+ghost use Rattle.orders.specs.LampOrders.{orderOf, packOrder, partWrong, orderWrong, periodIn, atLeast, orderMeaning};
+use crate::character::Character;
+use crate::fault::OrderFault;
+use crate::field::first_stray;
+use crate::kind::Kind;
+use crate::number::LampNumber;
+use crate::number::packing::is_lamp;
+use crate::order::LampOrder;
+
+/// Whether a character of this code may have this count.
+fn count_fits(code: u8, count: u8) -> bool
+    ensures { λ r. ⌜ r ≡ countFits code count ⌝ }
+{
+    if code == 3 {
+        2 <= count && count <= 6
+    } else {
+        count == 0
+    }
+}
+
+/// Whether a character of this code may have this period.
+fn period_fits(code: u8, period: u16) -> bool
+    ensures { λ r. ⌜ r ≡ periodFits code period ⌝ }
+{
+    if code == 0 {
+        period == 0
+    } else {
+        10 <= period && period <= 600
+    }
+}
+
+/// The place of the first part that is outside its limits.
+fn wrong_part(priority: u8, lamp: u8, code: u8, count: u8, period: u16) -> Option<usize>
+    ensures { λ r. ⌜ r ≡ partWrong priority lamp code count period ⌝ }
+{
+    if priority > 9 {
+        Some(0)
+    } else if !is_lamp(lamp) {
+        Some(1)
+    } else if code > 3 {
+        Some(2)
+    } else if !count_fits(code, count) {
+        Some(3)
+    } else if !period_fits(code, period) {
+        Some(4)
+    } else {
+        None
+    }
+}
+
+/// The period in a field, high byte first.
+fn period_in(field: &[u8; 16]) -> u16
+    ensures { λ r. ⌜ r ≡ periodIn (now (field .entry)) ⌝ }
+{
+    u16::from(field[4]) * 256 + u16::from(field[5])
+}
+
+/// The first wrong place of a field.
+fn first_wrong(field: &[u8; 16]) -> Option<usize>
+    ensures { λ r. ⌜ r ≡ orderWrong (now (field .entry)) ⌝ }
+{
+    match wrong_part(field[0], field[1], field[2], field[3], period_in(field)) {
+        Some(place) => Some(place),
+        None => first_stray(field, 6),
+    }
+}
+
+/// The order in a field that has no wrong place.
+fn order_in(field: &[u8; 16]) -> LampOrder
+    requires { ⌜ orderWrong (now field) ≡ None ⌝ }
+    ensures { λ r. ⌜ packOrder r ≡ now (field .entry) ⌝ }
+{
+    LampOrder {
+        priority: field[0],
+        lamp: LampNumber { number: field[1] },
+        character: Character::of(field[2], field[3], period_in(field)),
+    }
+}
+
+/// Whether the first row is higher where the two first differ, or they do not differ.
+fn at_least(ours: &[u8; 16], theirs: &[u8; 16]) -> bool
+    ensures { λ r. ⌜ r ≡ atLeast (now (ours .entry)) (now (theirs .entry)) ⌝ }
+{
+    for i in 0..16 {
+        if ours[i] != theirs[i] {
+            return ours[i] > theirs[i];
+        }
+    }
+    true
+}
+
+impl LampOrder {
+    /// The order of these parts. Refused as unreadable at the place of the first part that is outside its
+    /// limits: 0 for the priority, 3 for the count, 4 for the period.
+    pub fn new(priority: u8, lamp: LampNumber, character: Character) -> Result<LampOrder, OrderFault>
+        ensures { λ r. ⌜ r ≡ okOr (orderOf priority (Some lamp) character) (unreadableAt (valueOr (partWrong priority (lamp .number) (codeOf character) (countOf character) (periodOf character)) 0)) ⌝ }
+    {
+        match wrong_part(priority, lamp.number, character.code(), character.count(), character.period()) {
+            Some(place) => Err(OrderFault { place }),
+            None => Ok(LampOrder { priority, lamp, character }),
+        }
+    }
+}
+
+pub impl Kind for LampOrder as LampOrderKind {
+    ghost meaning = { orderMeaning };
+
+    fn width() -> u8 {
+        6
+    }
+
+    fn pack(&self) -> [u8; 16] {
+        let character = self.character;
+        let [high, low] = character.period().to_be_bytes();
+        [self.priority, self.lamp.number, character.code(), character.count(), high, low, 0, 0, 0, 0, 0, 0, 0, 0, 0, 0]
+    }
+
+    fn unpack(field: &[u8; 16]) -> Result<LampOrder, OrderFault> {
+        match first_wrong(field) {
+            Some(place) => Err(OrderFault { place }),
+            None => Ok(order_in(field)),
+        }
+    }
+
+    fn ranks_at_least(&self, other: &LampOrder) -> bool {
+        at_least(&self.pack(), &other.pack())
+    }
+}
