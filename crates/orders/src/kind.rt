@@ -1,5 +1,7 @@
 //! The trait of a kind of order.
 ghost use mathlib.Core.Path.{_≡_};
+ghost use Prim.Native.Nat.{_<_};
+ghost use Rattle.std.specs.Results.{Cases};
 ghost use Rattle.orders.specs.Kinds.{Meaning, Lawful, unpacking};
 use crate::fault::OrderFault;
 
@@ -26,4 +28,20 @@ pub trait Kind: Copy {
     /// Whether this value ranks at least as high as the other.
     fn ranks_at_least(&self, other: &Self) -> bool
         ensures { λ r. ⌜ r ≡ meaning .ranks (now (self .entry)) (now (other .entry)) ⌝ };
+}
+
+/// How many bytes of the field a value takes. That the kind shows its laws stands here too.
+pub fn width_of<K: Kind>() -> u8
+    ensures value { λ r. ⌜ r ≡ meaning .wide ⌝ }
+    ensures laws { λ _. ⌜ Lawful meaning ⌝ }
+{
+    K::width()
+}
+
+/// The value that packs to the field. Refused as unreadable, at a place in the field, exactly when no value does.
+pub fn unpack<K: Kind>(field: &[u8; 16]) -> Result<K, OrderFault>
+    ensures value { λ r. ⌜ r ≡ unpacking meaning (now (field .entry)) ⌝ }
+    ensures exact { λ r. ⌜ Cases r (λ v. meaning .packed v ≡ now (field .entry)) (λ e. (e .place < 16) × ((v : K) → meaning .packed v ≡ now (field .entry) → ⊥)) ⌝ }
+{
+    K::unpack(field)
 }
