@@ -10,7 +10,7 @@ use Rattle.std.specs.Options.{okOr}
 use Rattle.std.specs.declared.option.Option.{Option}
 use Rattle.std.specs.declared.option.Option.the-variants.{Some, None}
 use Rattle.std.specs.declared.result.Result.the-variants.{Ok}
-use Rattle.orders.specs.Choice.{ifSo, same, exact}
+use Rattle.orders.specs.Choice.{ifSo, same, exact, wrongAt}
 
 -- a test that is true, as the proof that an invariant holds
 pub so : {b : Bool} → b ≡ true → T b
@@ -62,3 +62,8 @@ module _ {V : Type 0} (written : V → List ℕ) (bytes : List ℕ) where
 pub ifSo-from : {V E : Type 0} (b : Bool) (make : T b → V) (v : V) (e : E) → Ok v ≡ okOr (ifSo b make) e → (h : T b) × (v ≡ make h)
 ifSo-from true make v e made = (tt, cc)
 ifSo-from false make v e made = let z : _≡_ {A = ℕ} 0 1 = cc in absurd (omega arith)
+
+-- no place is wrong: this test passes, and so do the later ones
+pub wrongAt-none : (b : Bool) (place : ℕ) (later : Option ℕ) → wrongAt b place later ≡ None → (b ≡ true) × (later ≡ None)
+wrongAt-none true place later e = (refl, e)
+wrongAt-none false place later e = let z : _≡_ {A = ℕ} 0 1 = cc in absurd (omega arith)

@@ -15,12 +15,12 @@ use Rattle.std.specs.declared.option.Option.{Option}
 use Rattle.std.specs.declared.option.Option.the-variants.{Some, None}
 use Rattle.std.specs.declared.result.Result.the-variants.{Ok, Err}
 use Rattle.orders.specs.Characters.{codeOf, countOf, periodOf, characterOf, countFits, periodFits, characterFits}
-use Rattle.orders.specs.Choice.{ifSo}
+use Rattle.orders.specs.Choice.{ifSo, wrongAt}
 use Rattle.orders.specs.Fault.{unreadableAt}
 use Rattle.orders.specs.Fields.{stray}
 use Rattle.orders.specs.Kinds.{Lawful, unpacking}
 use Rattle.orders.specs.LampNumbers.{lampOf}
-use Rattle.orders.specs.LampOrders.{orderOf, packOrder, periodIn, partWrong, wrongAt, orderWrong, orderMeaning}
+use Rattle.orders.specs.LampOrders.{orderOf, packOrder, periodIn, partWrong, orderWrong, orderMeaning}
 use Rattle.orders.specs.Lamps.{isLamp}
 use Rattle.orders.specs.OrderLimits.{orderFits}
 use Rattle.orders.specs.declared.character.Character.{Character}
@@ -28,7 +28,7 @@ use Rattle.orders.specs.declared.fault.OrderFault.{OrderFault}
 use Rattle.orders.specs.declared.number.LampNumber.{LampNumber}
 use Rattle.orders.specs.declared.order.LampOrder.{LampOrder}
 use Rattle.orders.proofs.Characters.{character-back, Parts, parts-of, Limited, limited}
-use Rattle.orders.proofs.Choices.{so, ifSo-made, is-so, exact-kept, exact-bytes}
+use Rattle.orders.proofs.Choices.{so, ifSo-made, is-so, exact-kept, exact-bytes, wrongAt-none}
 use Rattle.orders.proofs.Fields.{zero-at, zeros-none, none-zeros, stray-below}
 use Rattle.orders.proofs.LampNumbers.{lamp-limits, lampOf-number}
 use Rattle.orders.proofs.Ranking.{total, trans, antisym}
@@ -86,10 +86,6 @@ record Passed (priority lamp code count period : ℕ) : Type 0 where
   code-ok : leb code 3 ≡ true
   count-ok : countFits code count ≡ true
   period-ok : periodFits code period ≡ true
-
-wrongAt-none : (b : Bool) (place : ℕ) (later : Option ℕ) → wrongAt b place later ≡ None → (b ≡ true) × (later ≡ None)
-wrongAt-none true place later e = (refl, e)
-wrongAt-none false place later e = let z : _≡_ {A = ℕ} 0 1 = cc in absurd (omega arith)
 
 module _ (priority lamp code count period : ℕ) where
   passed : partWrong priority lamp code count period ≡ None → Passed priority lamp code count period

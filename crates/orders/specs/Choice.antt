@@ -1,4 +1,4 @@
--- Two ways to make a value only where it may be made. Assumes nothing.
+-- How a value is made only where it may be made, and how the first wrong place is found. Assumes nothing.
 use mathlib.Core.Bool.{Bool, true, false, cond, _&&_}
 use mathlib.Core.List.{List, [], _∷_}
 use Prim.Native.Nat.{ℕ}
@@ -22,3 +22,8 @@ same (x ∷ xs) (y ∷ ys) = eqb x y && same xs ys
 abbrev pub exact : {V : Type 0} → (V → List ℕ) → List ℕ → Option V → Option V
 exact written bytes None = None
 exact written bytes (Some v) = cond (same (written v) bytes) (Some v) None
+
+-- a place, where the test of what stands there fails; else what the later tests give
+abbrev pub wrongAt : Bool → ℕ → Option ℕ → Option ℕ
+wrongAt true place later = later
+wrongAt false place later = Some place

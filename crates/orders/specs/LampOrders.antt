@@ -1,5 +1,5 @@
 -- The kind 'lamp order': priority, lamp, character code, count and period in six bytes, ranked by the first that differs.
-use mathlib.Core.Bool.{Bool, true, false, cond}
+use mathlib.Core.Bool.{Bool, true, cond}
 use mathlib.Core.List.{List, [], _∷_}
 use Prim.Native.Nat.{ℕ, _+_, _*_, _/_, _%_}
 use lib.Dec.{leb, ltb, eqb}
@@ -8,7 +8,7 @@ use Rattle.std.specs.Options.{valueOr, orOther}
 use Rattle.std.specs.declared.option.Option.{Option}
 use Rattle.std.specs.declared.option.Option.the-variants.{Some, None}
 use Rattle.orders.specs.Characters.{codeOf, countOf, periodOf, characterOf, countFits, periodFits}
-use Rattle.orders.specs.Choice.{ifSo, exact}
+use Rattle.orders.specs.Choice.{ifSo, exact, wrongAt}
 use Rattle.orders.specs.Fields.{stray}
 use Rattle.orders.specs.Kinds.{Meaning}
 use Rattle.orders.specs.Lamps.{isLamp}
@@ -33,11 +33,6 @@ packOrder v =
 -- the period that two bytes of a field hold
 abbrev pub periodIn : List ℕ → ℕ
 periodIn field = getD field 4 0 * 256 + getD field 5 0
-
--- a place, where the test of what stands there fails; else what the later tests give
-abbrev pub wrongAt : Bool → ℕ → Option ℕ → Option ℕ
-wrongAt true place later = later
-wrongAt false place later = Some place
 
 -- the place of the first part that is wrong: priority, lamp, code, count, period
 abbrev pub partWrong : ℕ → ℕ → ℕ → ℕ → ℕ → Option ℕ

@@ -1,0 +1,4 @@
+pub mod Phases
+pub mod Limits
+pub mod Fault
+pub mod Wire
