@@ -12,8 +12,8 @@ use Rattle.std.proofs.shelf.Ways.{tells}
 use Rattle.std.specs.declared.option.Option.{Option}
 use Rattle.std.specs.declared.option.Option.the-variants.{Some, None}
 use Rattle.std.specs.declared.result.Result.the-variants.{Ok, Err}
-use Rattle.orders.specs.Choice.{wrongAt}
-use Rattle.orders.proofs.Choices.{so, is-so, wrongAt-none}
+use Rattle.refusals.specs.Choice.{wrongAt}
+use Rattle.refusals.proofs.Choices.{so, is-so, wrongAt-none}
 use Rattle.voting.specs.Voting.{sized}
 use Rattle.letters.specs.Limits.{isRound, onTime, lastRound}
 use Rattle.letters.specs.Phases.{phaseByte, isPhase, phaseAt}

@@ -13,11 +13,11 @@ use Rattle.std.specs.declared.option.Option.{Option}
 use Rattle.std.specs.declared.option.Option.the-variants.{Some, None}
 use Rattle.std.specs.declared.result.Result.{Result}
 use Rattle.std.specs.declared.result.Result.the-variants.{Ok, Err}
-use Rattle.orders.specs.Choice.{ifSo, exact, wrongAt}
+use Rattle.refusals.specs.Choice.{ifSo, exact, wrongAt}
 use Rattle.orders.specs.Fault.{unreadableAt}
 use Rattle.orders.specs.Kinds.{Meaning, Lawful, unpacking}
 use Rattle.orders.specs.declared.fault.OrderFault.{OrderFault}
-use Rattle.orders.proofs.Choices.{is-so, ifSo-made, exact-kept, exact-bytes}
+use Rattle.refusals.proofs.Choices.{is-so, ifSo-made, ifSo-from, ok-from, exact-kept, exact-bytes}
 use Rattle.orders.proofs.Unpacking.{unpacks}
 use Rattle.letters.specs.Wire.{headBytes, headOf, headIn, headFits, headWrong, firstWrong, unlessWrong, headReading, letterWith, making, faultUnless, letterBytes, letterIn, faultIn, reading}
 use Rattle.letters.specs.declared.fault.LetterFault.{LetterFault}
@@ -34,14 +34,10 @@ letter-made h v fits =
 pub letter-of : {V : Type 0} (m : Letter V) → letterWith (headOf m) (Some (m .content .estimate)) ≡ Some m
 letter-of m = sym (letter-made (headOf m) (m .content .estimate) (m .ok))
 
-from-test : {V : Type 0} (b : Bool) (make : T b → Letter V) (m : Letter V) → Some m ≡ ifSo b make → (fits : T b) × (m ≡ make fits)
-from-test true make m e = (tt, cc)
-from-test false make m e = let z : _≡_ {A = ℕ} 0 1 = cc in absurd (omega arith)
-
 -- its head and its estimate are those that it is made of
 made-of : {V : Type 0} (h : Head) (v : V) (m : Letter V) → Some m ≡ letterWith h (Some v) → (headOf m ≡ h) × (m .content .estimate ≡ v)
 made-of h v m e =
-    let from = from-test (headFits h) (λ t. record { size = h .size; sender = h .sender; round = h .round; content = record { phase = h .phase; leader = h .leader; approved = h .approved; timestamp = h .timestamp; estimate = v }; ok = t }) m e in
+    let from = ifSo-from (headFits h) (λ t. record { size = h .size; sender = h .sender; round = h .round; content = record { phase = h .phase; leader = h .leader; approved = h .approved; timestamp = h .timestamp; estimate = v }; ok = t }) m (sym e) in
     (ap headOf (from .1), ap (λ l. l .content .estimate) (from .1))
 
 -- what an answer says of the fields before
@@ -66,10 +62,6 @@ pub whole : (bytes read : List ℕ) → Some read ≡ whenTrue (eqb (length byte
 whole bytes read e =
     let both = some-when (eqb (length bytes) 32) bytes read e in
     (eqb-true (length bytes) 32 (both .0), both .1)
-
-ok-part : {A E : Type 0} (o : Option A) (f : E) (x : A) → Ok x ≡ okOr o f → o ≡ Some x
-ok-part None f x e = let z : _≡_ {A = ℕ} 0 1 = cc in absurd (omega arith)
-ok-part (Some y) f x e = cc
 
 err-part : {A E : Type 0} (o : Option A) (f g : E) → Err g ≡ okOr o f → (o ≡ None) × (f ≡ g)
 err-part None f g e = (refl, cc)
@@ -158,7 +150,7 @@ module _ {V : Type 0} (kind : Meaning V) (laws : Lawful kind) where
         unfolding letterBytes
         right-letter small v m e made =
             let parts = made-of h v m made in
-            let held = ok-part (kind .unpacked (drop 16 bytes)) (unreadableAt (kind .misplaced (drop 16 bytes))) v e in
+            let held = ok-from (kind .unpacked (drop 16 bytes)) (unreadableAt (kind .misplaced (drop 16 bytes))) v e in
             let field : kind .packed v ≡ drop 16 bytes = laws .exactly (drop 16 bytes) v held in
             let is-head : headOf m ≡ headIn bytes = parts .0 ∙ unless-ok (headWrong (kind .wide) bytes) (headIn bytes) h head .1 in
             let written : letterBytes kind m ≡ bytes = ap (λ x. headBytes (kind .wide) x (kind .packed (m .content .estimate))) is-head ∙ ap (headBytes (kind .wide) (headIn bytes)) (ap (kind .packed) (parts .1) ∙ field) ∙ head-bytes (kind .wide) bytes right long small in

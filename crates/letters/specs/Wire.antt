@@ -9,7 +9,7 @@ use Rattle.std.specs.declared.option.Option.{Option}
 use Rattle.std.specs.declared.option.Option.the-variants.{Some, None}
 use Rattle.std.specs.declared.result.Result.{Result}
 use Rattle.std.specs.declared.result.Result.the-variants.{Ok, Err}
-use Rattle.orders.specs.Choice.{ifSo, exact, wrongAt}
+use Rattle.refusals.specs.Choice.{ifSo, exact, wrongAt}
 use Rattle.orders.specs.Fault.{unreadableAt}
 use Rattle.orders.specs.Kinds.{Meaning}
 use Rattle.voting.specs.Voting.{sized}

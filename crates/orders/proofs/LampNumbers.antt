@@ -13,7 +13,7 @@ use Rattle.std.specs.declared.option.Option.{Option}
 use Rattle.std.specs.declared.option.Option.the-variants.{Some, None}
 use Rattle.std.specs.declared.result.Result.{Result}
 use Rattle.std.specs.declared.result.Result.the-variants.{Ok, Err}
-use Rattle.orders.specs.Choice.{ifSo, exact}
+use Rattle.refusals.specs.Choice.{ifSo, exact}
 use Rattle.orders.specs.Fault.{unreadableAt}
 use Rattle.orders.specs.Fields.{stray}
 use Rattle.orders.specs.Kinds.{Meaning, Lawful, unpacking}
@@ -21,7 +21,7 @@ use Rattle.orders.specs.LampNumbers.{lampOf, packLamp, lampWrong, lampMeaning}
 use Rattle.orders.specs.Lamps.{isLamp}
 use Rattle.orders.specs.declared.fault.OrderFault.{OrderFault}
 use Rattle.orders.specs.declared.number.LampNumber.{LampNumber}
-use Rattle.orders.proofs.Choices.{ifSo-made, ifSo-from, is-so, exact-kept, exact-bytes}
+use Rattle.refusals.proofs.Choices.{ifSo-made, ifSo-from, ok-from, is-so, exact-kept, exact-bytes}
 use Rattle.orders.proofs.Fields.{zero-at, zeros-none, none-zeros, stray-below}
 use Rattle.orders.proofs.Unpacking.{unpacks, refuses-at}
 
@@ -87,7 +87,9 @@ field-of (x ∷ xs) long e =
 -- what unpacking answers of a field whose first byte is this lamp's number, by what follows it
 module _ (field : List ℕ) (v : LampNumber) (made : Ok v ≡ okOr (lampOf (getD field 0 0)) (unreadableAt 0)) where
   from : (h : T (isLamp (getD field 0 0))) × (v ≡ record { number = getD field 0 0; ok = h })
-  from = ifSo-from (isLamp (getD field 0 0)) (λ t. record { number = getD field 0 0; ok = t }) v (unreadableAt 0) made
+  from =
+      ifSo-from (isLamp (getD field 0 0)) (λ t. record { number = getD field 0 0; ok = t }) v
+      (ok-from (lampOf (getD field 0 0)) (unreadableAt 0) v made)
 
   pub lamp-unpacks : length field ≡ 16 → None ≡ stray 1 field → Ok v ≡ unpacking lampMeaning field
   lamp-unpacks long clean =

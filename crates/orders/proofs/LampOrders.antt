@@ -15,7 +15,7 @@ use Rattle.std.specs.declared.option.Option.{Option}
 use Rattle.std.specs.declared.option.Option.the-variants.{Some, None}
 use Rattle.std.specs.declared.result.Result.the-variants.{Ok, Err}
 use Rattle.orders.specs.Characters.{codeOf, countOf, periodOf, characterOf, countFits, periodFits, characterFits}
-use Rattle.orders.specs.Choice.{ifSo, wrongAt}
+use Rattle.refusals.specs.Choice.{ifSo, wrongAt}
 use Rattle.orders.specs.Fault.{unreadableAt}
 use Rattle.orders.specs.Fields.{stray}
 use Rattle.orders.specs.Kinds.{Lawful, unpacking}
@@ -28,7 +28,7 @@ use Rattle.orders.specs.declared.fault.OrderFault.{OrderFault}
 use Rattle.orders.specs.declared.number.LampNumber.{LampNumber}
 use Rattle.orders.specs.declared.order.LampOrder.{LampOrder}
 use Rattle.orders.proofs.Characters.{character-back, Parts, parts-of, Limited, limited}
-use Rattle.orders.proofs.Choices.{so, ifSo-made, is-so, exact-kept, exact-bytes, wrongAt-none}
+use Rattle.refusals.proofs.Choices.{so, ifSo-made, is-so, exact-kept, exact-bytes, wrongAt-none}
 use Rattle.orders.proofs.Fields.{zero-at, zeros-none, none-zeros, stray-below}
 use Rattle.orders.proofs.LampNumbers.{lamp-limits, lampOf-number}
 use Rattle.orders.proofs.Ranking.{total, trans, antisym}

@@ -1,4 +1,3 @@
-pub mod Choices
 pub mod Unpacking
 pub mod Fields
 pub mod LampNumbers

@@ -7,7 +7,7 @@ use lib.ListN.{getD, replicate}
 use Rattle.std.specs.Options.{valueOr}
 use Rattle.std.specs.declared.option.Option.{Option}
 use Rattle.std.specs.declared.option.Option.the-variants.{Some, None}
-use Rattle.orders.specs.Choice.{ifSo, exact}
+use Rattle.refusals.specs.Choice.{ifSo, exact}
 use Rattle.orders.specs.Fields.{stray}
 use Rattle.orders.specs.Kinds.{Meaning}
 use Rattle.orders.specs.Lamps.{isLamp}

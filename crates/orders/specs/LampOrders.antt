@@ -8,7 +8,7 @@ use Rattle.std.specs.Options.{valueOr, orOther}
 use Rattle.std.specs.declared.option.Option.{Option}
 use Rattle.std.specs.declared.option.Option.the-variants.{Some, None}
 use Rattle.orders.specs.Characters.{codeOf, countOf, periodOf, characterOf, countFits, periodFits}
-use Rattle.orders.specs.Choice.{ifSo, exact, wrongAt}
+use Rattle.refusals.specs.Choice.{ifSo, exact, wrongAt}
 use Rattle.orders.specs.Fields.{stray}
 use Rattle.orders.specs.Kinds.{Meaning}
 use Rattle.orders.specs.Lamps.{isLamp}

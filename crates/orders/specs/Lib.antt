@@ -1,4 +1,3 @@
-pub mod Choice
 pub mod Fault
 pub mod Kinds
 pub mod Fields

@@ -1,2 +1,5 @@
 pub mod Sets
 pub mod Voting
+pub mod Rules
+pub mod Faults
+pub mod Makes

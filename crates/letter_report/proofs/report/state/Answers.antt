@@ -1,0 +1,7 @@
+use borrow.Author.Needs.{needs}
+use Rattle.letter_report.proofs.report.state.Needs as need
+
+pub returns : need.returns
+returns g c =
+    let estimate = c .in-Continue-estimate .ensures tt in
+    rw (← c .yes-no-approved .ensures, ← c .width-width .ensures, ← estimate) (search needs)
