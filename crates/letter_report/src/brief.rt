@@ -42,13 +42,21 @@ fn brief_as<K: Printable>(heap: Global, bytes: &[u8]) -> Result<String, AllocErr
 }
 
 /// One line on a letter, which was read from these bytes.
-fn brief_letter<K: Printable>(heap: Global, letter: &Letter<K>, bytes: &[u8]) -> Result<String, AllocError>
+fn brief_letter<K: Printable>(
+    heap: Global,
+    letter: &Letter<K>,
+    bytes: &[u8],
+) -> Result<String, AllocError>
     requires { ⌜ letterBytes (K·Kind .meaning) (now letter) ≡ now bytes ⌝ }
     ensures { λ r. ⌜ made r (λ s. string-bytes s ≡ briefOf (K·Kind .meaning) shown (Ok (now (letter .entry)))) ⌝ }
 {
     let speakers = parties(heap, letter)?;
     let holds = state(heap, letter)?;
-    let again = if gives(letter, bytes) { "same" } else { "other" };
+    let again = if gives(letter, bytes) {
+        "same"
+    } else {
+        "other"
+    };
     format!(heap, "{speakers} {holds} {again}")
 }
 

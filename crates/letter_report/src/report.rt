@@ -56,7 +56,11 @@ fn told<K: Printable>(heap: Global, bytes: &[u8]) -> Result<String, AllocError>
 }
 
 /// What a letter says, which was read from these bytes.
-fn told_letter<K: Printable>(heap: Global, letter: &Letter<K>, bytes: &[u8]) -> Result<String, AllocError>
+fn told_letter<K: Printable>(
+    heap: Global,
+    letter: &Letter<K>,
+    bytes: &[u8],
+) -> Result<String, AllocError>
     requires { ⌜ letterBytes (K·Kind .meaning) (now letter) ≡ now bytes ⌝ }
     ensures { λ r. ⌜ made r (λ s. string-bytes s ≡ toldOf (K·Kind .meaning) shown (Ok (now (letter .entry)))) ⌝ }
 {
@@ -86,7 +90,10 @@ fn parties<K: Printable>(heap: Global, letter: &Letter<K>) -> Result<String, All
     let size = letter.size;
     let sender = letter.sender;
     let leader = letter.content.leader;
-    format!(heap, "type {phase}\ngroup of {size}\nsender {sender}\nleader {leader}\n")
+    format!(
+        heap,
+        "type {phase}\ngroup of {size}\nsender {sender}\nleader {leader}\n"
+    )
 }
 
 /// What the sender holds.
@@ -98,7 +105,10 @@ fn state<K: Printable>(heap: Global, letter: &Letter<K>) -> Result<String, Alloc
     let round = letter.round;
     let timestamp = letter.content.timestamp;
     let estimate = letter.content.estimate.text(heap)?;
-    format!(heap, "approved {approved}\nwidth {width}\nround {round}\ntimestamp {timestamp}\nestimate {estimate}\n")
+    format!(
+        heap,
+        "approved {approved}\nwidth {width}\nround {round}\ntimestamp {timestamp}\nestimate {estimate}\n"
+    )
 }
 
 /// A flag in words.

@@ -45,7 +45,10 @@ pub impl Printable for LampOrder as LampOrderPrintable {
             Character::Fixed => format!(heap, "{priority}/{lamp}/F"),
             Character::Flashing { period } => format!(heap, "{priority}/{lamp}/Fl{period}"),
             Character::Isophase { period } => format!(heap, "{priority}/{lamp}/Iso{period}"),
-            Character::GroupFlashing { count, period } => format!(heap, "{priority}/{lamp}/Fl({count}){period}"),
+            Character::GroupFlashing { count, period } => format!(
+                heap,
+                "{priority}/{lamp}/Fl({count}){period}"
+            ),
         }
     }
 }

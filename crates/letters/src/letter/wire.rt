@@ -56,7 +56,11 @@ fn read_whole(bytes: &[u8]) -> Option<[u8; 32]>
 fn read_size(byte: u8) -> Option<u8>
     ensures { λ r. ⌜ r ≡ whenTrue (sized byte) byte ⌝ }
 {
-    if is_group(usize::from(byte)) { Some(byte) } else { None }
+    if is_group(usize::from(byte)) {
+        Some(byte)
+    } else {
+        None
+    }
 }
 
 /// The number of a controller in a group of this size.
@@ -135,9 +139,13 @@ fn read_clock(bytes: &[u8; 32], phase: Phase) -> Result<Clock, LetterFault>
     ensures { λ r. ⌜ r ≡ clockReading phase (now (bytes .entry)) ⌝ }
 {
     let number = u32::from_be_bytes([bytes[8], bytes[9], bytes[10], bytes[11]]);
-    let Some(round) = read_round(number) else { return garbled(8) };
+    let Some(round) = read_round(number) else {
+        return garbled(8)
+    };
     let number = u32::from_be_bytes([bytes[12], bytes[13], bytes[14], bytes[15]]);
-    let Some(timestamp) = read_timestamp(phase, round, number) else { return garbled(12) };
+    let Some(timestamp) = read_timestamp(phase, round, number) else {
+        return garbled(12)
+    };
     Ok(Clock { round, timestamp })
 }
 
@@ -145,13 +153,27 @@ fn read_clock(bytes: &[u8; 32], phase: Phase) -> Result<Clock, LetterFault>
 fn read_head(bytes: &[u8; 32], width: u8) -> Result<Head, LetterFault>
     ensures { λ r. ⌜ r ≡ headReading width (now (bytes .entry)) ⌝ }
 {
-    let Some(phase) = Phase::from_byte(bytes[0]) else { return garbled(0) };
-    let Some(size) = read_size(bytes[1]) else { return garbled(1) };
-    let Some(sender) = read_member(bytes[2], size) else { return garbled(2) };
-    let Some(leader) = read_member(bytes[3], size) else { return garbled(3) };
-    let Some(approved) = read_flag(bytes[4]) else { return garbled(4) };
-    let Some(_) = read_only(bytes[5], width) else { return garbled(5) };
-    let (0, 0) = (bytes[6], bytes[7]) else { return garbled(6) };
+    let Some(phase) = Phase::from_byte(bytes[0]) else {
+        return garbled(0)
+    };
+    let Some(size) = read_size(bytes[1]) else {
+        return garbled(1)
+    };
+    let Some(sender) = read_member(bytes[2], size) else {
+        return garbled(2)
+    };
+    let Some(leader) = read_member(bytes[3], size) else {
+        return garbled(3)
+    };
+    let Some(approved) = read_flag(bytes[4]) else {
+        return garbled(4)
+    };
+    let Some(_) = read_only(bytes[5], width) else {
+        return garbled(5)
+    };
+    let (0, 0) = (bytes[6], bytes[7]) else {
+        return garbled(6)
+    };
     let Clock { round, timestamp } = read_clock(bytes, phase)?;
     Ok(Head {
         phase,
@@ -206,8 +228,22 @@ fn write_head(head: Head, width: u8) -> [u8; 16]
     let [t0, t1, t2, t3] = head.timestamp.to_be_bytes();
     let approved = u8::from(head.approved);
     [
-        head.phase.byte(), head.size, head.sender, head.leader, approved, width, 0, 0,
-        r0, r1, r2, r3, t0, t1, t2, t3,
+        head.phase.byte(),
+        head.size,
+        head.sender,
+        head.leader,
+        approved,
+        width,
+        0,
+        0,
+        r0,
+        r1,
+        r2,
+        r3,
+        t0,
+        t1,
+        t2,
+        t3,
     ]
 }
 
@@ -235,7 +271,15 @@ fn letter_with<K: Kind>(head: Head, estimate: K) -> Letter<K>
     requires { ⌜ T (headFits head) ⌝ }
     ensures { λ r. ⌜ Some r ≡ letterWith head (Some estimate) ⌝ }
 {
-    let Head { phase, size, sender, leader, approved, round, timestamp } = head;
+    let Head {
+        phase,
+        size,
+        sender,
+        leader,
+        approved,
+        round,
+        timestamp,
+    } = head;
     let content = Content {
         phase,
         leader,
@@ -254,7 +298,12 @@ fn letter_with<K: Kind>(head: Head, estimate: K) -> Letter<K>
 impl<K: Kind> Letter<K> {
     /// The letter of these parts. Refused as garbled, at its place among the 32 bytes, for the first part that breaks
     /// a rule: size, sender, leader, round, timestamp.
-    pub fn new(size: u8, sender: u8, round: u32, content: Content<K>) -> Result<Letter<K>, LetterFault>
+    pub fn new(
+        size: u8,
+        sender: u8,
+        round: u32,
+        content: Content<K>,
+    ) -> Result<Letter<K>, LetterFault>
         ensures { λ r. ⌜ r ≡ making (headFor size sender round content) (content .estimate) ⌝ }
     {
         let head = head_for(size, sender, round, content);
@@ -270,7 +319,9 @@ impl<K: Kind> Letter<K> {
         ensures value { λ r. ⌜ r ≡ reading meaning (now (bytes .entry)) ⌝ }
         ensures exact { λ r. ⌜ Cases r (λ m. letterBytes meaning m ≡ now (bytes .entry)) (λ _. (m : Letter K) → letterBytes meaning m ≡ now (bytes .entry) → ⊥) ⌝ }
     {
-        let Some(bytes) = read_whole(bytes) else { return garbled(32) };
+        let Some(bytes) = read_whole(bytes) else {
+            return garbled(32)
+        };
         let head = read_head(&bytes, K::width())?;
         let estimate = K::unpack(&estimate_field(&bytes))?;
         Ok(letter_with(head, estimate))

@@ -98,12 +98,26 @@ fn at_least(ours: &[u8; 16], theirs: &[u8; 16]) -> bool
 impl LampOrder {
     /// The order of these parts. Refused as unreadable at the place of the first part that is outside its
     /// limits: 0 for the priority, 3 for the count, 4 for the period.
-    pub fn new(priority: u8, lamp: LampNumber, character: Character) -> Result<LampOrder, OrderFault>
+    pub fn new(
+        priority: u8,
+        lamp: LampNumber,
+        character: Character,
+    ) -> Result<LampOrder, OrderFault>
         ensures { λ r. ⌜ r ≡ okOr (orderOf priority (Some lamp) character) (unreadableAt (valueOr (partWrong priority (lamp .number) (codeOf character) (countOf character) (periodOf character)) 0)) ⌝ }
     {
-        match wrong_part(priority, lamp.number, character.code(), character.count(), character.period()) {
+        match wrong_part(
+            priority,
+            lamp.number,
+            character.code(),
+            character.count(),
+            character.period(),
+        ) {
             Some(place) => Err(OrderFault { place }),
-            None => Ok(LampOrder { priority, lamp, character }),
+            None => Ok(LampOrder {
+                priority,
+                lamp,
+                character,
+            }),
         }
     }
 }
@@ -118,7 +132,24 @@ pub impl Kind for LampOrder as LampOrderKind {
     fn pack(&self) -> [u8; 16] {
         let character = self.character;
         let [high, low] = character.period().to_be_bytes();
-        [self.priority, self.lamp.number, character.code(), character.count(), high, low, 0, 0, 0, 0, 0, 0, 0, 0, 0, 0]
+        [
+            self.priority,
+            self.lamp.number,
+            character.code(),
+            character.count(),
+            high,
+            low,
+            0,
+            0,
+            0,
+            0,
+            0,
+            0,
+            0,
+            0,
+            0,
+            0,
+        ]
     }
 
     fn unpack(field: &[u8; 16]) -> Result<LampOrder, OrderFault> {
