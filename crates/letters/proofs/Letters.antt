@@ -6,9 +6,8 @@ use Prim.Native.Nat.{ℕ, _<_}
 use native.Mathlib.Omega.{arith}
 use lib.Dec.{T, eqb}
 use lib.ListN.{length, getD, drop}
-use Rattle.std.proofs.shelf.Tests.{eqb-true, eq-eqb}
-use Rattle.std.specs.Options.{okOr, whenTrue}
-use Rattle.std.specs.Results.{Cases}
+use Rattle.std.proofs.shelf.Tests.{eq-eqb, ne-eqb}
+use Rattle.std.specs.Options.{okOr}
 use Rattle.std.specs.declared.option.Option.{Option}
 use Rattle.std.specs.declared.option.Option.the-variants.{Some, None}
 use Rattle.std.specs.declared.result.Result.{Result}
@@ -19,7 +18,7 @@ use Rattle.orders.specs.Kinds.{Meaning, Lawful, unpacking}
 use Rattle.orders.specs.declared.fault.OrderFault.{OrderFault}
 use Rattle.refusals.proofs.Choices.{is-so, ifSo-made, ifSo-from, ok-from, exact-kept, exact-bytes}
 use Rattle.orders.proofs.Unpacking.{unpacks}
-use Rattle.letters.specs.Wire.{headBytes, headOf, headIn, headFits, headWrong, firstWrong, unlessWrong, headReading, letterWith, making, faultUnless, letterBytes, letterIn, faultIn, reading}
+use Rattle.letters.specs.Wire.{headBytes, headOf, headIn, headFits, headWrong, firstWrong, unlessWrong, headReading, letterWith, making, faultUnless, letterBytes, letterIn, faultIn, reading, ReadExactly}
 use Rattle.letters.specs.declared.fault.LetterFault.{LetterFault}
 use Rattle.letters.specs.declared.fault.LetterFault.the-variants.{Garbled, Order}
 use Rattle.letters.specs.declared.letter.Letter.{Letter}
@@ -48,20 +47,6 @@ unless-ok (Some place) x y e = let z : _≡_ {A = ℕ} 0 1 = cc in absurd (omega
 unless-err : {A : Type 0} (o : Option ℕ) (x : A) (f : LetterFault) → Err f ≡ unlessWrong o x → (place : ℕ) × (o ≡ Some place) × (f ≡ Garbled place)
 unless-err None x f e = let z : _≡_ {A = ℕ} 0 1 = cc in absurd (omega arith)
 unless-err (Some place) x f e = (place, refl, cc)
-
-some-when : {A : Type 0} (b : Bool) (x y : A) → Some y ≡ whenTrue b x → (b ≡ true) × (y ≡ x)
-some-when true x y e = (refl, cc)
-some-when false x y e = let z : _≡_ {A = ℕ} 0 1 = cc in absurd (omega arith)
-
-none-when : {A : Type 0} (b : Bool) (x : A) → None ≡ whenTrue b x → b ≡ false
-none-when true x e = let z : _≡_ {A = ℕ} 0 1 = cc in absurd (omega arith)
-none-when false x e = refl
-
--- the bytes that were taken for a whole letter
-pub whole : (bytes read : List ℕ) → Some read ≡ whenTrue (eqb (length bytes) 32) bytes → (length bytes ≡ 32) × (read ≡ bytes)
-whole bytes read e =
-    let both = some-when (eqb (length bytes) 32) bytes read e in
-    (eqb-true (length bytes) 32 (both .0), both .1)
 
 err-part : {A E : Type 0} (o : Option A) (f g : E) → Err g ≡ okOr o f → (o ≡ None) × (f ≡ g)
 err-part None f g e = (refl, cc)
@@ -112,7 +97,7 @@ module _ {V : Type 0} (kind : Meaning V) (laws : Lawful kind) where
   -- what reading says of an answer: it is the stated one, and a letter just where one is written so
   pub record Answer (bytes : List ℕ) (r : Result (Letter V) LetterFault) : Type 0 where
     pub value : r ≡ reading kind bytes
-    pub exact : Cases r (λ m. letterBytes kind m ≡ bytes) (λ _. (m : Letter V) → letterBytes kind m ≡ bytes → ⊥)
+    pub exact : ReadExactly kind bytes r
 
   module _ (bytes : List ℕ) where
     garbled-at : (place : ℕ) → firstWrong (kind .wide) bytes ≡ Some place → Answer bytes (Err (Garbled place))
@@ -122,8 +107,8 @@ module _ {V : Type 0} (kind : Meaning V) (laws : Lawful kind) where
         let fault : faultIn kind bytes ≡ Garbled place = rw wrong in
         record { value = ap Err (sym fault) ∙ refuses bytes never; exact = never }
 
-    pub wrong-length : None ≡ whenTrue (eqb (length bytes) 32) bytes → Answer bytes (Err (Garbled 32))
-    wrong-length other = let test = none-when (eqb (length bytes) 32) bytes other in garbled-at 32 (rw test)
+    pub wrong-length : (length bytes ≡ 32 → ⊥) → Answer bytes (Err (Garbled 32))
+    wrong-length other = let test = ne-eqb (length bytes) 32 other in garbled-at 32 (rw test)
 
     module _ (long : length bytes ≡ 32) where
       same-place : firstWrong (kind .wide) bytes ≡ headWrong (kind .wide) bytes

@@ -1,4 +1,5 @@
 -- The 32 bytes of a letter: how it is written, which bytes are wrong, and what reading answers.
+use mathlib.Core.Path.{_≡_}
 use mathlib.Core.Bool.{Bool, cond, _&&_}
 use mathlib.Core.List.{List, [], _∷_, _++_}
 use Prim.Native.Nat.{ℕ, _+_, _*_, _/_, _%_}
@@ -126,7 +127,7 @@ letterWith h (Some v) = ifSo (headFits h) (λ fits. record {
 })
 
 -- what making a letter of a head and an estimate answers
-abbrev pub making : {V : Type 0} → Head → V → Result (Letter V) LetterFault
+unfoldable pub making : {V : Type 0} → Head → V → Result (Letter V) LetterFault
 making h v = okOr (letterWith h (Some v)) (Garbled (valueOr (ruleBroken h) 0))
 
 -- a fault, unless a place is wrong: then the fault there
@@ -150,3 +151,8 @@ module _ {V : Type 0} (kind : Meaning V) where
   -- what reading bytes answers: the letter that is written so, or the fault
   unfoldable pub reading : List ℕ → Result (Letter V) LetterFault
   reading bytes = okOr (letterIn bytes) (faultIn bytes)
+
+  -- an answer to bytes that is a letter just where one is written as these bytes, and then that one
+  abbrev pub ReadExactly : List ℕ → Result (Letter V) LetterFault → Type 0
+  ReadExactly bytes (Ok m) = letterBytes m ≡ bytes
+  ReadExactly bytes (Err fault) = (m : Letter V) → letterBytes m ≡ bytes → ⊥

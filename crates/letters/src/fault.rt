@@ -27,7 +27,7 @@ impl LetterFault {
                 reason: Reason::Garbled,
                 place,
             },
-            LetterFault::Order(fault) => fault.refusal(),
+            LetterFault::Order(order) => order.refusal(),
         }
     }
 }

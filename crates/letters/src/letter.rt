@@ -1,4 +1,5 @@
 //! Letters and what they say.
+ghost use mathlib.Core.Path.{_≡_};
 ghost use lib.Dec.{T};
 ghost use Rattle.letters.specs.Limits.{letterFits};
 use crate::phase::Phase;
@@ -36,6 +37,10 @@ pub struct Letter<K> {
 impl<K: Copy> Copy for Letter<K> {}
 
 pub impl<K: Copy> Clone for Letter<K> as LetterClone {
+    ghost clones = { λ x y. y ≡ x };
+
+    ghost sure = { λ _. Unit {0} };
+
     fn clone(&self) -> Result<Letter<K>, AllocError> {
         Ok(*self)
     }

@@ -11,6 +11,7 @@ use Rattle.std.proofs.shelf.Tests.{eqb-true, eq-eqb, ne-eqb}
 use Rattle.std.specs.Options.{valueOr}
 use Rattle.std.specs.declared.option.Option.{Option}
 use Rattle.std.specs.declared.option.Option.the-variants.{Some, None}
+use Rattle.refusals.specs.Choice.{wrongAt}
 use Rattle.orders.specs.Fields.{nonzeroAt, stray}
 
 pub zero-at : (n i : ℕ) → getD {A = ℕ} (replicate n 0) i 0 ≡ 0
@@ -40,6 +41,11 @@ module _ (field : List ℕ) (i : ℕ) where
 
   pub stray-end : length field ≤ i → stray i field ≡ None
   stray-end past = rw (drop-all i field past)
+
+-- a wrong place lies in the field, if the later ones do
+pub wrongAt-below : (b : Bool) (place : ℕ) (later : Option ℕ) → place < 16 → valueOr later 0 < 16 → valueOr (wrongAt b place later) 0 < 16
+wrongAt-below true place later here rest = rest
+wrongAt-below false place later here rest = here
 
 below-test : (b : Bool) (i n : ℕ) (xs : List ℕ) → i < n → valueOr (nonzeroAt (i + 1) xs) 0 < n → valueOr (cond b (nonzeroAt (i + 1) xs) (Some i)) 0 < n
 below-test true i n xs here rest = rest

@@ -1,14 +1,15 @@
 -- The laws of lamp numbers.
 use mathlib.Core.Path.{_≡_, refl, sym, ap, _∙_}
-use mathlib.Core.Bool.{true, false, cond}
+use mathlib.Core.Bool.{true}
 use mathlib.Core.List.{List, [], _∷_, _++_}
 use mathlib.Core.Logic.{inl, inr, ⊎-elim}
 use Prim.Native.Nat.{ℕ, zero, suc, _+_, _-_, _<_, _≤_}
 use native.Mathlib.Omega.{arith}
 use lib.Dec.{T, leb, leb→le}
 use lib.ListN.{length, getD, drop, replicate, length-drop}
-use Rattle.std.proofs.shelf.Tests.{leb-true, le-leb, and-parts, cases-lt, cond-both}
+use Rattle.std.proofs.shelf.Tests.{leb-true, le-leb, and-parts, cases-lt}
 use Rattle.std.specs.Options.{okOr, valueOr}
+use Rattle.std.specs.Slices.{found}
 use Rattle.std.specs.declared.option.Option.{Option}
 use Rattle.std.specs.declared.option.Option.the-variants.{Some, None}
 use Rattle.std.specs.declared.result.Result.{Result}
@@ -21,8 +22,8 @@ use Rattle.orders.specs.LampNumbers.{lampOf, packLamp, lampWrong, lampMeaning}
 use Rattle.orders.specs.Lamps.{isLamp}
 use Rattle.orders.specs.declared.fault.OrderFault.{OrderFault}
 use Rattle.orders.specs.declared.number.LampNumber.{LampNumber}
-use Rattle.refusals.proofs.Choices.{ifSo-made, ifSo-from, ok-from, is-so, exact-kept, exact-bytes}
-use Rattle.orders.proofs.Fields.{zero-at, zeros-none, none-zeros, stray-below}
+use Rattle.refusals.proofs.Choices.{is-so, ifSo-made, exact-kept, exact-bytes, wrongAt-none}
+use Rattle.orders.proofs.Fields.{zero-at, zeros-none, none-zeros, wrongAt-below, stray-below}
 use Rattle.orders.proofs.Unpacking.{unpacks, refuses-at}
 
 pub lamp-made : (n : ℕ) (h : T (isLamp n)) (f : OrderFault) → Ok (record { number = n; ok = h }) ≡ okOr (lampOf n) f
@@ -57,8 +58,7 @@ packed-right v = let good = is-so (isLamp (v .number)) (v .ok) in rw good (zeros
 place-below : (field : List ℕ) → length field ≡ 16 → valueOr (lampWrong field) 0 < 16
 place-below field long =
     let rest : 1 + length (drop 1 field) ≤ 16 = simp length-drop (omega arith) in
-    cond-both (isLamp (getD field 0 0)) (stray 1 field) (Some 0) (λ o. valueOr o 0 < 16)
-    (λ _. stray-below 1 16 (drop 1 field) rest (omega arith)) (λ _. omega arith)
+    wrongAt-below (isLamp (getD field 0 0)) 0 (stray 1 field) (omega arith) (stray-below 1 16 (drop 1 field) rest (omega arith))
 
 pub lamp-lawful : Lawful lampMeaning
 lamp-lawful = record {
@@ -84,20 +84,15 @@ field-of (x ∷ xs) long e =
     let tail : xs ≡ replicate 15 0 = clean ∙ ap (λ n. replicate n 0) many in
     cc
 
--- what unpacking answers of a field whose first byte is this lamp's number, by what follows it
-module _ (field : List ℕ) (v : LampNumber) (made : Ok v ≡ okOr (lampOf (getD field 0 0)) (unreadableAt 0)) where
-  from : (h : T (isLamp (getD field 0 0))) × (v ≡ record { number = getD field 0 0; ok = h })
-  from =
-      ifSo-from (isLamp (getD field 0 0)) (λ t. record { number = getD field 0 0; ok = t }) v
-      (ok-from (lampOf (getD field 0 0)) (unreadableAt 0) v made)
+-- what unpacking answers of a field, by whether a place is wrong
+pub lamp-refuses : (field : List ℕ) (o : Option ℕ) → o ≡ lampWrong field → found o (λ p. Err (unreadableAt p) ≡ unpacking lampMeaning field)
+lamp-refuses field None e = tt
+lamp-refuses field (Some p) e = sym (refuses-at lampMeaning lamp-lawful lampWrong packed-right (λ _. refl) field p (sym e))
 
-  pub lamp-unpacks : length field ≡ 16 → None ≡ stray 1 field → Ok v ≡ unpacking lampMeaning field
-  lamp-unpacks long clean =
-      let number : v .number ≡ getD field 0 0 = ap (λ l. l .number) (from .1) in
-      sym (unpacks lampMeaning lamp-lawful field v (ap (λ n. n ∷ replicate 15 0) number ∙ field-of field long (sym clean)))
+module _ (field : List ℕ) (right : lampWrong field ≡ None) where
+  parts : (isLamp (getD field 0 0) ≡ true) × (stray 1 field ≡ None)
+  parts = wrongAt-none (isLamp (getD field 0 0)) 0 (stray 1 field) right
 
-  pub lamp-refuses : (p : ℕ) → Some p ≡ stray 1 field → Err (unreadableAt p) ≡ unpacking lampMeaning field
-  lamp-refuses p found =
-      let good = is-so (isLamp (getD field 0 0)) (from .0) in
-      let wrong : lampWrong field ≡ Some p = rw good (sym found) in
-      sym (refuses-at lampMeaning lamp-lawful lampWrong packed-right (λ _. refl) field p wrong)
+  pub lamp-unpacks : length field ≡ 16 → (v : LampNumber) → v .number ≡ getD field 0 0 → Ok v ≡ unpacking lampMeaning field
+  lamp-unpacks long v number =
+      sym (unpacks lampMeaning lamp-lawful field v (ap (λ n. n ∷ replicate 15 0) number ∙ field-of field long (parts .1)))

@@ -11,6 +11,7 @@ use lib.ListN.{length, getD, drop, replicate, length-drop}
 use Rattle.std.proofs.shelf.Bits.{div-below}
 use Rattle.std.proofs.shelf.Tests.{leb-true, le-leb, and-parts, and-from}
 use Rattle.std.specs.Options.{okOr, valueOr, orOther}
+use Rattle.std.specs.Slices.{found}
 use Rattle.std.specs.declared.option.Option.{Option}
 use Rattle.std.specs.declared.option.Option.the-variants.{Some, None}
 use Rattle.std.specs.declared.result.Result.the-variants.{Ok, Err}
@@ -29,7 +30,7 @@ use Rattle.orders.specs.declared.number.LampNumber.{LampNumber}
 use Rattle.orders.specs.declared.order.LampOrder.{LampOrder}
 use Rattle.orders.proofs.Characters.{character-back, Parts, parts-of, Limited, limited}
 use Rattle.refusals.proofs.Choices.{so, ifSo-made, is-so, exact-kept, exact-bytes, wrongAt-none}
-use Rattle.orders.proofs.Fields.{zero-at, zeros-none, none-zeros, stray-below}
+use Rattle.orders.proofs.Fields.{zero-at, zeros-none, none-zeros, wrongAt-below, stray-below}
 use Rattle.orders.proofs.LampNumbers.{lamp-limits, lampOf-number}
 use Rattle.orders.proofs.Ranking.{total, trans, antisym}
 use Rattle.orders.proofs.Unpacking.{unpacks, refuses-at}
@@ -120,10 +121,6 @@ packed-right v =
     ap (λ o. orOther o (stray 6 (packOrder v))) there ∙ zeros-none 6 10
 
 -- a wrong place lies in the field
-place-after : (b : Bool) (place : ℕ) (later : Option ℕ) → place < 16 → valueOr later 0 < 16 → valueOr (wrongAt b place later) 0 < 16
-place-after true place later here rest = rest
-place-after false place later here rest = here
-
 place-or : (first then : Option ℕ) → valueOr first 0 < 16 → valueOr then 0 < 16 → valueOr (orOther first then) 0 < 16
 place-or None then a b = b
 place-or (Some place) then a b = a
@@ -135,11 +132,11 @@ place-below field long =
     place-or
     (partWrong (getD field 0 0) (getD field 1 0) (getD field 2 0) (getD field 3 0) (periodIn field))
     (stray 6 field)
-    (place-after (leb (getD field 0 0) 9) 0 _ (omega arith)
-    (place-after (isLamp (getD field 1 0)) 1 _ (omega arith)
-    (place-after (leb (getD field 2 0) 3) 2 _ (omega arith)
-    (place-after (countFits (getD field 2 0) (getD field 3 0)) 3 _ (omega arith)
-    (place-after (periodFits (getD field 2 0) (periodIn field)) 4 None (omega arith) (omega arith))))))
+    (wrongAt-below (leb (getD field 0 0) 9) 0 _ (omega arith)
+    (wrongAt-below (isLamp (getD field 1 0)) 1 _ (omega arith)
+    (wrongAt-below (leb (getD field 2 0) 3) 2 _ (omega arith)
+    (wrongAt-below (countFits (getD field 2 0) (getD field 3 0)) 3 _ (omega arith)
+    (wrongAt-below (periodFits (getD field 2 0) (periodIn field)) 4 None (omega arith) (omega arith))))))
     within
 
 same-packed : (x y : LampOrder) → packOrder x ≡ packOrder y → x ≡ y
@@ -188,6 +185,10 @@ or-none : (first then : Option ℕ) → orOther first then ≡ None → (first �
 or-none None then e = (refl, e)
 or-none (Some place) then e = let z : _≡_ {A = ℕ} 0 1 = cc in absurd (omega arith)
 
+-- the bytes of a character, and the zeros behind them
+abbrev six : Character → List ℕ
+six c = codeOf c ∷ countOf c ∷ periodOf c / 256 ∷ periodOf c % 256 ∷ replicate 10 0
+
 -- a field with no wrong place holds an order
 module _ (field : List ℕ) (right : orderWrong field ≡ None) where
   parts : Passed (getD field 0 0) (getD field 1 0) (getD field 2 0) (getD field 3 0) (periodIn field)
@@ -219,7 +220,7 @@ module _ (field : List ℕ) (right : orderWrong field ≡ None) where
         so (and-from (leb (getD field 0 0) 9) (characterFits c) (parts .priority-ok)
         (and-from (countFits (codeOf c) (countOf c)) (periodFits (codeOf c) (periodOf c)) count fits))
 
-    pub field-holds : length field ≡ 16 → getD field 5 0 < 256 → getD field 0 0 ∷ getD field 1 0 ∷ codeOf c ∷ countOf c ∷ periodOf c / 256 ∷ periodOf c % 256 ∷ replicate 10 0 ≡ field
+    field-holds : length field ≡ 16 → getD field 5 0 < 256 → getD field 0 0 ∷ getD field 1 0 ∷ six c ≡ field
     field-holds long low =
         let first = code in
         let second = count-byte in
@@ -228,8 +229,13 @@ module _ (field : List ℕ) (right : orderWrong field ≡ None) where
         let whole = six-bytes field long (or-none _ (stray 6 field) right .1) in
         cc
 
-pub order-unpacks : (field : List ℕ) (v : LampOrder) → packOrder v ≡ field → Ok v ≡ unpacking orderMeaning field
-order-unpacks field v e = sym (unpacks orderMeaning order-lawful field v e)
+  pub order-unpacks : length field ≡ 16 → getD field 5 0 < 256 → (v : LampOrder) → v .priority ≡ getD field 0 0 → v .lamp .number ≡ getD field 1 0 → (period : ℕ) → period ≡ periodIn field → v .character ≡ characterOf (getD field 2 0) (getD field 3 0) period → Ok v ≡ unpacking orderMeaning field
+  order-unpacks long low v p l period period-is c =
+      let held = field-holds period (v .character) period-is c long low in
+      let written : packOrder v ≡ field = ap (λ n. n ∷ v .lamp .number ∷ six (v .character)) p ∙ ap (λ n. getD field 0 0 ∷ n ∷ six (v .character)) l ∙ held in
+      sym (unpacks orderMeaning order-lawful field v written)
 
-pub order-refuses : (field : List ℕ) (p : ℕ) → Some p ≡ orderWrong field → Err (unreadableAt p) ≡ unpacking orderMeaning field
-order-refuses field p e = sym (refuses-at orderMeaning order-lawful orderWrong packed-right (λ _. refl) field p (sym e))
+-- what unpacking answers of a field in which a place is wrong
+pub order-refuses : (field : List ℕ) (o : Option ℕ) → o ≡ orderWrong field → found o (λ p. Err (unreadableAt p) ≡ unpacking orderMeaning field)
+order-refuses field None e = tt
+order-refuses field (Some p) e = sym (refuses-at orderMeaning order-lawful orderWrong packed-right (λ _. refl) field p (sym e))

@@ -1,13 +1,11 @@
 -- The kind 'lamp number': one byte, 1 to 12, ranked as a number.
-use mathlib.Core.Bool.{Bool, cond, _&&_}
 use mathlib.Core.List.{List, _∷_}
 use Prim.Native.Nat.{ℕ}
 use lib.Dec.{leb}
 use lib.ListN.{getD, replicate}
 use Rattle.std.specs.Options.{valueOr}
 use Rattle.std.specs.declared.option.Option.{Option}
-use Rattle.std.specs.declared.option.Option.the-variants.{Some, None}
-use Rattle.refusals.specs.Choice.{ifSo, exact}
+use Rattle.refusals.specs.Choice.{ifSo, exact, wrongAt}
 use Rattle.orders.specs.Fields.{stray}
 use Rattle.orders.specs.Kinds.{Meaning}
 use Rattle.orders.specs.Lamps.{isLamp}
@@ -23,7 +21,7 @@ packLamp v = v .number ∷ replicate 15 0
 
 -- the first wrong place of a field: the number's, else the first byte after it that is not zero
 abbrev pub lampWrong : List ℕ → Option ℕ
-lampWrong field = cond (isLamp (getD field 0 0)) (stray 1 field) (Some 0)
+lampWrong field = wrongAt (isLamp (getD field 0 0)) 0 (stray 1 field)
 
 abbrev pub lampMeaning : Meaning LampNumber
 lampMeaning = record {

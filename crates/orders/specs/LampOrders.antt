@@ -4,17 +4,20 @@ use mathlib.Core.List.{List, [], _∷_}
 use Prim.Native.Nat.{ℕ, _+_, _*_, _/_, _%_}
 use lib.Dec.{leb, ltb, eqb}
 use lib.ListN.{getD, replicate}
-use Rattle.std.specs.Options.{valueOr, orOther}
+use Rattle.std.specs.Options.{okOr, valueOr, orOther}
 use Rattle.std.specs.declared.option.Option.{Option}
 use Rattle.std.specs.declared.option.Option.the-variants.{Some, None}
+use Rattle.std.specs.declared.result.Result.{Result}
 use Rattle.orders.specs.Characters.{codeOf, countOf, periodOf, characterOf, countFits, periodFits}
 use Rattle.refusals.specs.Choice.{ifSo, exact, wrongAt}
+use Rattle.orders.specs.Fault.{unreadableAt}
 use Rattle.orders.specs.Fields.{stray}
 use Rattle.orders.specs.Kinds.{Meaning}
 use Rattle.orders.specs.Lamps.{isLamp}
 use Rattle.orders.specs.LampNumbers.{lampOf}
 use Rattle.orders.specs.OrderLimits.{orderFits}
 use Rattle.orders.specs.declared.character.Character.{Character}
+use Rattle.orders.specs.declared.fault.OrderFault.{OrderFault}
 use Rattle.orders.specs.declared.number.LampNumber.{LampNumber}
 use Rattle.orders.specs.declared.order.LampOrder.{LampOrder}
 
@@ -40,6 +43,12 @@ partWrong priority lamp code count period =
     wrongAt (leb priority 9) 0
     (wrongAt (isLamp lamp) 1
     (wrongAt (leb code 3) 2 (wrongAt (countFits code count) 3 (wrongAt (periodFits code period) 4 None))))
+
+-- what making an order of its parts answers: the order, or the refusal at the first part that is wrong
+abbrev pub orderMaking : ℕ → LampNumber → Character → Result LampOrder OrderFault
+orderMaking p l c =
+    okOr (orderOf p (Some l) c)
+    (unreadableAt (valueOr (partWrong p (l .number) (codeOf c) (countOf c) (periodOf c)) 0))
 
 -- the first wrong place of a field: that of a part, else the first byte after the six that is not zero
 abbrev pub orderWrong : List ℕ → Option ℕ

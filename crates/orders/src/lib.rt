@@ -2,7 +2,7 @@
 //! have a ranking. A kind shows its laws once, and everything above is proved from these laws alone.
 pub mod character;
 pub mod fault;
-pub mod field;
+mod field;
 pub mod kind;
 pub mod number;
 pub mod order;

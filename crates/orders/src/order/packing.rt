@@ -1,10 +1,12 @@
 //! How lamp orders are made, packed and ranked.
 ghost use mathlib.Core.Path.{_≡_};
-ghost use Rattle.std.specs.Options.{okOr, valueOr};
-ghost use Rattle.std.specs.declared.option.Option.the-variants.{Some, None};
-ghost use Rattle.orders.specs.Characters.{codeOf, countOf, periodOf, countFits, periodFits};
+ghost use Rattle.std.specs.Slices.{found};
+ghost use Rattle.std.specs.declared.option.Option.the-variants.{None};
+ghost use Rattle.std.specs.declared.result.Result.the-variants.{Ok, Err};
+ghost use Rattle.orders.specs.Characters.{countFits, periodFits};
 ghost use Rattle.orders.specs.Fault.{unreadableAt};
-ghost use Rattle.orders.specs.LampOrders.{orderOf, packOrder, partWrong, orderWrong, periodIn, atLeast, orderMeaning};
+ghost use Rattle.orders.specs.Kinds.{unpacking};
+ghost use Rattle.orders.specs.LampOrders.{orderMaking, partWrong, orderWrong, periodIn, atLeast, orderMeaning};
 use crate::character::Character;
 use crate::fault::OrderFault;
 use crate::field::first_stray;
@@ -12,6 +14,78 @@ use crate::kind::Kind;
 use crate::number::LampNumber;
 use crate::number::packing::is_lamp;
 use crate::order::LampOrder;
+
+/// How many bytes a lamp order takes.
+const WIDTH: u8 = 6;
+
+impl LampOrder {
+    /// The order of these parts. Refused as unreadable at the place of the first part that is outside its
+    /// limits: 0 for the priority, 3 for the count, 4 for the period.
+    pub fn new(
+        priority: u8,
+        lamp: LampNumber,
+        character: Character,
+    ) -> Result<LampOrder, OrderFault>
+        ensures { λ r. ⌜ r ≡ orderMaking priority lamp character ⌝ }
+    {
+        match wrong_part(
+            priority,
+            lamp.number,
+            character.code(),
+            character.count(),
+            character.period(),
+        ) {
+            Some(place) => Err(OrderFault { place }),
+            None => Ok(LampOrder {
+                priority,
+                lamp,
+                character,
+            }),
+        }
+    }
+}
+
+pub impl Kind for LampOrder as LampOrderKind {
+    ghost meaning = { orderMeaning };
+
+    fn width() -> u8 {
+        WIDTH
+    }
+
+    fn pack(&self) -> [u8; 16] {
+        let character = self.character;
+        let [high, low] = character.period().to_be_bytes();
+        [
+            self.priority,
+            self.lamp.number,
+            character.code(),
+            character.count(),
+            high,
+            low,
+            0,
+            0,
+            0,
+            0,
+            0,
+            0,
+            0,
+            0,
+            0,
+            0,
+        ]
+    }
+
+    fn unpack(field: &[u8; 16]) -> Result<LampOrder, OrderFault> {
+        match first_wrong(field) {
+            Some(place) => Err(OrderFault { place }),
+            None => Ok(order_in(field)),
+        }
+    }
+
+    fn ranks_at_least(&self, other: &LampOrder) -> bool {
+        at_least(&self.pack(), &other.pack())
+    }
+}
 
 /// Whether a character of this code may have this count.
 fn count_fits(code: u8, count: u8) -> bool
@@ -61,8 +135,8 @@ fn period_in(field: &[u8; 16]) -> u16
     u16::from(field[4]) * 256 + u16::from(field[5])
 }
 
-/// The first wrong place of a field.
-fn first_wrong(field: &[u8; 16]) -> Option<usize>
+/// The first wrong place of a field: that of a part, else the first byte after the six that is not zero.
+fn wrong_place(field: &[u8; 16]) -> Option<usize>
     ensures { λ r. ⌜ r ≡ orderWrong (now (field .entry)) ⌝ }
 {
     match wrong_part(field[0], field[1], field[2], field[3], period_in(field)) {
@@ -71,10 +145,18 @@ fn first_wrong(field: &[u8; 16]) -> Option<usize>
     }
 }
 
+/// The place at which a field is refused, if it is.
+fn first_wrong(field: &[u8; 16]) -> Option<usize>
+    ensures value { λ r. ⌜ r ≡ orderWrong (now (field .entry)) ⌝ }
+    ensures refused { λ r. ⌜ found r (λ p. Err (unreadableAt p) ≡ unpacking orderMeaning (now (field .entry))) ⌝ }
+{
+    wrong_place(field)
+}
+
 /// The order in a field that has no wrong place.
 fn order_in(field: &[u8; 16]) -> LampOrder
     requires { ⌜ orderWrong (now field) ≡ None ⌝ }
-    ensures { λ r. ⌜ packOrder r ≡ now (field .entry) ⌝ }
+    ensures { λ r. ⌜ Ok r ≡ unpacking orderMeaning (now (field .entry)) ⌝ }
 {
     LampOrder {
         priority: field[0],
@@ -93,73 +175,4 @@ fn at_least(ours: &[u8; 16], theirs: &[u8; 16]) -> bool
         }
     }
     true
-}
-
-impl LampOrder {
-    /// The order of these parts. Refused as unreadable at the place of the first part that is outside its
-    /// limits: 0 for the priority, 3 for the count, 4 for the period.
-    pub fn new(
-        priority: u8,
-        lamp: LampNumber,
-        character: Character,
-    ) -> Result<LampOrder, OrderFault>
-        ensures { λ r. ⌜ r ≡ okOr (orderOf priority (Some lamp) character) (unreadableAt (valueOr (partWrong priority (lamp .number) (codeOf character) (countOf character) (periodOf character)) 0)) ⌝ }
-    {
-        match wrong_part(
-            priority,
-            lamp.number,
-            character.code(),
-            character.count(),
-            character.period(),
-        ) {
-            Some(place) => Err(OrderFault { place }),
-            None => Ok(LampOrder {
-                priority,
-                lamp,
-                character,
-            }),
-        }
-    }
-}
-
-pub impl Kind for LampOrder as LampOrderKind {
-    ghost meaning = { orderMeaning };
-
-    fn width() -> u8 {
-        6
-    }
-
-    fn pack(&self) -> [u8; 16] {
-        let character = self.character;
-        let [high, low] = character.period().to_be_bytes();
-        [
-            self.priority,
-            self.lamp.number,
-            character.code(),
-            character.count(),
-            high,
-            low,
-            0,
-            0,
-            0,
-            0,
-            0,
-            0,
-            0,
-            0,
-            0,
-            0,
-        ]
-    }
-
-    fn unpack(field: &[u8; 16]) -> Result<LampOrder, OrderFault> {
-        match first_wrong(field) {
-            Some(place) => Err(OrderFault { place }),
-            None => Ok(order_in(field)),
-        }
-    }
-
-    fn ranks_at_least(&self, other: &LampOrder) -> bool {
-        at_least(&self.pack(), &other.pack())
-    }
 }

@@ -1,5 +1,6 @@
+use mathlib.Core.Path.{refl}
 use borrow.Author.Needs.{needs}
-use Rattle.orders.proofs.LampOrders.{field-fits, field-holds}
+use Rattle.orders.proofs.LampOrders.{field-fits, order-unpacks}
 use Rattle.orders.proofs.order.packing.order_in.Needs as need
 
 pub ghost-result-2 : need.ghost-result-2
@@ -8,5 +9,4 @@ ghost-result-2 c =
 
 pub returns : need.returns
 returns c =
-    field-holds (c .args .field .now) (c .pre) (c .period-in .result) (c .of .result) (c .period-in .ensures) (c .of .ensures)
-    (search needs) (search needs)
+    order-unpacks (c .args .field .now) (c .pre) (search needs) (search needs) _ refl refl (c .period-in .result) (c .period-in .ensures) (c .of .ensures)
