@@ -6,7 +6,7 @@ use native.Mathlib.Omega.{arith}
 use lib.ListN.{length, getD, drop}
 use Rattle.std.specs.declared.option.Option.{Option}
 use Rattle.std.specs.declared.option.Option.the-variants.{Some, None}
-use Rattle.letter_batch.specs.Hex.{digitOf, before, byteBefore, unhex}
+use Rattle.letter_batch.specs.Hex.{digitOf, before, unhex}
 
 before-before : (xs ys : List ℕ) (o : Option (List ℕ)) → before xs (before ys o) ≡ before (xs ++ ys) o
 before-before xs ys None = refl

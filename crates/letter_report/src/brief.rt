@@ -3,7 +3,7 @@ ghost use mathlib.Core.Path.{_≡_};
 ghost use Rattle.std.specs.Of.String.{string-bytes};
 ghost use Rattle.std.specs.Vec.{made};
 ghost use Rattle.std.specs.declared.result.Result.the-variants.{Ok};
-ghost use Rattle.letters.specs.Wire.{letterBytes, reading};
+ghost use Rattle.letters.specs.Wire.{letterBytes};
 ghost use Rattle.letter_report.specs.Report.{partiesBrief, stateBrief, briefOf, briefAs, brief};
 use crate::claims_order;
 use crate::gives;

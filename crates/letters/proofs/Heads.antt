@@ -1,8 +1,8 @@
 -- A head that keeps the rules and its 16 bytes determine each other.
-use mathlib.Core.Path.{_≡_, refl, sym, ap, _∙_}
-use mathlib.Core.Bool.{Bool, true, false, _&&_, _||_}
+use mathlib.Core.Path.{_≡_, refl, ap, _∙_}
+use mathlib.Core.Bool.{Bool, true, false, _&&_}
 use mathlib.Core.List.{List, _∷_}
-use Prim.Native.Nat.{ℕ, _+_, _<_, _≤_}
+use Prim.Native.Nat.{ℕ, _<_, _≤_}
 use native.Mathlib.Omega.{arith}
 use lib.Dec.{T, leb, ltb, eqb}
 use lib.ListN.{length, getD, drop}
@@ -10,15 +10,13 @@ use Rattle.std.proofs.shelf.Lists.{drop-more}
 use Rattle.std.proofs.shelf.Tests.{eqb-true, eq-eqb, leb-true, and-parts, and-from}
 use Rattle.std.proofs.shelf.Ways.{tells}
 use Rattle.std.specs.declared.option.Option.{Option}
-use Rattle.std.specs.declared.option.Option.the-variants.{Some, None}
-use Rattle.std.specs.declared.result.Result.the-variants.{Ok, Err}
+use Rattle.std.specs.declared.option.Option.the-variants.{None}
 use Rattle.refusals.specs.Choice.{wrongAt}
-use Rattle.refusals.proofs.Choices.{so, is-so, wrongAt-none}
+use Rattle.refusals.proofs.Choices.{so, wrongAt-none}
 use Rattle.voting.specs.Voting.{sized}
 use Rattle.letters.specs.Limits.{isRound, onTime, lastRound}
 use Rattle.letters.specs.Phases.{phaseByte, isPhase, phaseAt}
-use Rattle.letters.specs.Wire.{flagByte, fourBytes, numberAt, headBytes, headIn, headFits, clockWrong, headWrong, unlessWrong, headReading}
-use Rattle.letters.specs.declared.fault.LetterFault.the-variants.{Garbled}
+use Rattle.letters.specs.Wire.{flagByte, fourBytes, numberAt, headBytes, headIn, headFits, headWrong}
 use Rattle.letters.specs.declared.letter.wire.Head.{Head}
 use Rattle.letters.specs.declared.phase.Phase.{Phase}
 use Rattle.letters.specs.declared.phase.Phase.the-variants.{Prepare, Commit, Decide}

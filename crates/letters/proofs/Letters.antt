@@ -1,10 +1,10 @@
 -- Reading gives the letter that is written so, and refuses bytes that no letter is written as.
 use mathlib.Core.Path.{_≡_, refl, sym, ap, subst, _∙_}
-use mathlib.Core.Bool.{Bool, true, false}
+use mathlib.Core.Bool.{true}
 use mathlib.Core.List.{List}
 use Prim.Native.Nat.{ℕ, _<_}
 use native.Mathlib.Omega.{arith}
-use lib.Dec.{T, eqb}
+use lib.Dec.{T}
 use lib.ListN.{length, getD, drop}
 use Rattle.std.proofs.shelf.Tests.{eq-eqb, ne-eqb}
 use Rattle.std.specs.Options.{okOr}
@@ -12,13 +12,13 @@ use Rattle.std.specs.declared.option.Option.{Option}
 use Rattle.std.specs.declared.option.Option.the-variants.{Some, None}
 use Rattle.std.specs.declared.result.Result.{Result}
 use Rattle.std.specs.declared.result.Result.the-variants.{Ok, Err}
-use Rattle.refusals.specs.Choice.{ifSo, exact, wrongAt}
+use Rattle.refusals.specs.Choice.{exact}
 use Rattle.orders.specs.Fault.{unreadableAt}
 use Rattle.orders.specs.Kinds.{Meaning, Lawful, unpacking}
 use Rattle.orders.specs.declared.fault.OrderFault.{OrderFault}
 use Rattle.refusals.proofs.Choices.{is-so, ifSo-made, ifSo-from, ok-from, exact-kept, exact-bytes}
 use Rattle.orders.proofs.Unpacking.{unpacks}
-use Rattle.letters.specs.Wire.{headBytes, headOf, headIn, headFits, headWrong, firstWrong, unlessWrong, headReading, letterWith, making, faultUnless, letterBytes, letterIn, faultIn, reading, ReadExactly}
+use Rattle.letters.specs.Wire.{headBytes, headOf, headIn, headFits, headWrong, firstWrong, unlessWrong, headReading, letterWith, letterBytes, letterIn, faultIn, reading, ReadExactly}
 use Rattle.letters.specs.declared.fault.LetterFault.{LetterFault}
 use Rattle.letters.specs.declared.fault.LetterFault.the-variants.{Garbled, Order}
 use Rattle.letters.specs.declared.letter.Letter.{Letter}

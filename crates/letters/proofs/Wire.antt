@@ -1,25 +1,19 @@
 -- A letter's bytes and the letter in them determine each other.
 use mathlib.Core.Path.{_≡_, refl, sym, ap, _∙_}
-use mathlib.Core.Bool.{Bool, true, false, cond, _&&_}
+use mathlib.Core.Bool.{Bool, true, false}
 use mathlib.Core.List.{List, [], _∷_, _++_}
-use Prim.Native.Nat.{ℕ, zero, suc, _+_, _*_, _/_, _%_, _<_, _≤_}
+use Prim.Native.Nat.{ℕ, zero, suc, _+_, _*_, _/_, _%_, _<_}
 use native.Mathlib.Nat.{div-div-eq-div-mul, div-add-mod', mod-eq-of-lt}
 use native.Mathlib.Omega.{arith}
-use lib.Dec.{T, leb, ltb, eqb}
-use lib.ListN.{length, getD, drop, take, length-append}
+use lib.Dec.{leb, eqb}
+use lib.ListN.{length, drop, take, length-append}
 use borrow.Rule.Slice.PartMut.{putMid}
 use Rattle.std.proofs.shelf.Bits.{div-below}
 use Rattle.std.proofs.shelf.Parts.{putMid-paste}
-use Rattle.std.proofs.shelf.Lists.{append-nil, take-at, take-all, drop-all, drop-more}
-use Rattle.std.proofs.shelf.Tests.{eqb-true, leb-true, ltb-true, and-parts, and-from}
-use Rattle.std.proofs.shelf.Ways.{tells}
-use Rattle.std.specs.Options.{okOr}
-use Rattle.std.specs.declared.option.Option.{Option}
-use Rattle.std.specs.declared.option.Option.the-variants.{Some, None}
-use Rattle.std.specs.declared.result.Result.{Result}
-use Rattle.std.specs.declared.result.Result.the-variants.{Ok, Err}
+use Rattle.std.proofs.shelf.Lists.{append-nil, take-at, take-all, drop-all}
+use Rattle.std.proofs.shelf.Tests.{leb-true, and-parts}
 use Rattle.letters.specs.Phases.{phaseByte, isPhase, phaseAt}
-use Rattle.letters.specs.Wire.{flagByte, fourBytes, numberAt}
+use Rattle.letters.specs.Wire.{flagByte, fourBytes}
 use Rattle.letters.specs.declared.phase.Phase.{Phase}
 use Rattle.letters.specs.declared.phase.Phase.the-variants.{Prepare, Commit, Decide}
 

@@ -1,23 +1,21 @@
 -- The laws of lamp numbers.
 use mathlib.Core.Path.{_≡_, refl, sym, ap, _∙_}
 use mathlib.Core.Bool.{true}
-use mathlib.Core.List.{List, [], _∷_, _++_}
+use mathlib.Core.List.{List, [], _∷_}
 use mathlib.Core.Logic.{inl, inr, ⊎-elim}
-use Prim.Native.Nat.{ℕ, zero, suc, _+_, _-_, _<_, _≤_}
+use Prim.Native.Nat.{ℕ, zero, suc, _+_, _<_, _≤_}
 use native.Mathlib.Omega.{arith}
-use lib.Dec.{T, leb, leb→le}
+use lib.Dec.{T, leb}
 use lib.ListN.{length, getD, drop, replicate, length-drop}
 use Rattle.std.proofs.shelf.Tests.{leb-true, le-leb, and-parts, cases-lt}
 use Rattle.std.specs.Options.{okOr, valueOr}
 use Rattle.std.specs.Slices.{found}
 use Rattle.std.specs.declared.option.Option.{Option}
 use Rattle.std.specs.declared.option.Option.the-variants.{Some, None}
-use Rattle.std.specs.declared.result.Result.{Result}
 use Rattle.std.specs.declared.result.Result.the-variants.{Ok, Err}
-use Rattle.refusals.specs.Choice.{ifSo, exact}
 use Rattle.orders.specs.Fault.{unreadableAt}
 use Rattle.orders.specs.Fields.{stray}
-use Rattle.orders.specs.Kinds.{Meaning, Lawful, unpacking}
+use Rattle.orders.specs.Kinds.{Lawful, unpacking}
 use Rattle.orders.specs.LampNumbers.{lampOf, packLamp, lampWrong, lampMeaning}
 use Rattle.orders.specs.Lamps.{isLamp}
 use Rattle.orders.specs.declared.fault.OrderFault.{OrderFault}

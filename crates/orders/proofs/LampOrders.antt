@@ -1,8 +1,8 @@
 -- The laws of lamp orders.
 use mathlib.Core.Path.{_≡_, refl, sym, ap, _∙_}
-use mathlib.Core.Bool.{Bool, true, false}
+use mathlib.Core.Bool.{true}
 use mathlib.Core.List.{List, [], _∷_}
-use Prim.Native.Nat.{ℕ, zero, suc, _+_, _*_, _/_, _%_, _<_, _≤_}
+use Prim.Native.Nat.{ℕ, zero, suc, _+_, _/_, _%_, _<_, _≤_}
 use native.Mathlib.Nat.{mod-lt, div-add-mod'}
 use native.Mathlib.Omega.{arith}
 use lib.Arith.{digits-div, digits-mod}
@@ -16,7 +16,6 @@ use Rattle.std.specs.declared.option.Option.{Option}
 use Rattle.std.specs.declared.option.Option.the-variants.{Some, None}
 use Rattle.std.specs.declared.result.Result.the-variants.{Ok, Err}
 use Rattle.orders.specs.Characters.{codeOf, countOf, periodOf, characterOf, countFits, periodFits, characterFits}
-use Rattle.refusals.specs.Choice.{ifSo, wrongAt}
 use Rattle.orders.specs.Fault.{unreadableAt}
 use Rattle.orders.specs.Fields.{stray}
 use Rattle.orders.specs.Kinds.{Lawful, unpacking}
@@ -28,7 +27,7 @@ use Rattle.orders.specs.declared.character.Character.{Character}
 use Rattle.orders.specs.declared.fault.OrderFault.{OrderFault}
 use Rattle.orders.specs.declared.number.LampNumber.{LampNumber}
 use Rattle.orders.specs.declared.order.LampOrder.{LampOrder}
-use Rattle.orders.proofs.Characters.{character-back, Parts, parts-of, Limited, limited}
+use Rattle.orders.proofs.Characters.{character-back, Parts, parts-of, limited}
 use Rattle.refusals.proofs.Choices.{so, ifSo-made, is-so, exact-kept, exact-bytes, wrongAt-none}
 use Rattle.orders.proofs.Fields.{zero-at, zeros-none, none-zeros, wrongAt-below, stray-below}
 use Rattle.orders.proofs.LampNumbers.{lamp-limits, lampOf-number}

@@ -3,14 +3,12 @@ use mathlib.Core.Path.{_≡_, refl, sym, ap, _∙_}
 use mathlib.Core.List.{List}
 use Prim.Native.Nat.{ℕ}
 use native.Mathlib.Omega.{arith}
-use Rattle.std.specs.Options.{okOr, valueOr}
+use Rattle.std.specs.Options.{valueOr}
 use Rattle.std.specs.declared.option.Option.{Option}
 use Rattle.std.specs.declared.option.Option.the-variants.{Some, None}
-use Rattle.std.specs.declared.result.Result.{Result}
 use Rattle.std.specs.declared.result.Result.the-variants.{Ok, Err}
 use Rattle.orders.specs.Fault.{unreadableAt}
 use Rattle.orders.specs.Kinds.{Meaning, Lawful, unpacking}
-use Rattle.orders.specs.declared.fault.OrderFault.{OrderFault}
 
 module _ {V : Type 0} (m : Meaning V) (laws : Lawful m) where
   pub unpacks : (field : List ℕ) (v : V) → m .packed v ≡ field → unpacking m field ≡ Ok v

@@ -3,7 +3,7 @@ use Prim.Native.Nat.{ℕ}
 use mathlib.Core.List.{List}
 use lib.Chars.{codes}
 use Rattle.refusals.specs.declared.Layer.{Layer}
-use Rattle.refusals.specs.declared.Layer.the-variants.{Order, Letter, Rule, End, Script}
+use Rattle.refusals.specs.declared.Layer.the-variants.{Order, Letter, Rule, End}
 use Rattle.refusals.specs.declared.Reason.{Reason}
 use Rattle.refusals.specs.declared.Reason.the-variants.{Size, Number, Garbled, Unreadable, Ballot}
 use Rattle.refusals.specs.declared.Refusal.{Refusal}

@@ -1,5 +1,4 @@
 use Rattle.std.proofs.shelf.Lists.{getD-past}
-use native.Mathlib.Omega.{arith}
 use borrow.Author.Needs.{needs}
 use Rattle.letter_report.proofs.claims_order.Needs as need
 

@@ -1,6 +1,3 @@
-use mathlib.Core.Path.{_≡_, sym}
-use mathlib.Core.List.{List}
-use Prim.Native.Nat.{ℕ}
 use Rattle.std.proofs.shelf.Equals.{matches-decides}
 use Rattle.letter_report.proofs.gives.Needs as need
 

@@ -1,5 +1,4 @@
 use mathlib.Core.Path.{sym, _∙_}
-use native.Mathlib.Omega.{arith}
 use borrow.Author.Needs.{needs}
 use Rattle.orders.proofs.Fields.{stray-here, stray-more, stray-end}
 use Rattle.orders.proofs.field.first_stray.Needs as need

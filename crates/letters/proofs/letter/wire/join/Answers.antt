@@ -1,5 +1,4 @@
 use mathlib.Core.Path.{_∙_}
-use mathlib.Core.List.{_++_}
 use borrow.Author.Needs.{needs}
 use lib.ListN.{length-append, replicate}
 use Rattle.letters.proofs.Wire.{halves}

@@ -1,5 +1,4 @@
 use mathlib.Core.Path.{_≡_, sym, _∙_}
-use mathlib.Core.List.{_++_}
 use Rattle.letters.specs.Wire.{letterBytes}
 use Rattle.letters.proofs.Letters.{reads}
 use Rattle.letters.proofs.letter.wire.with_estimate.Needs as need
