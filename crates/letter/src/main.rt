@@ -1,5 +1,5 @@
 //! Says what one captured letter holds: reads it from standard input and prints the report.
-use letter_report::report::report;
+use letter_report::report;
 use std::error::AnyError;
 use std::io::Read;
 

@@ -3,7 +3,7 @@
 mod hex;
 
 use hex::decode;
-use letter_report::brief::brief;
+use letter_report::brief;
 use std::error::AnyError;
 use std::io::BufRead;
 use std::io::BufReader;

@@ -6,14 +6,17 @@ ghost use Rattle.std.specs.Vec.{made};
 ghost use Rattle.letters.specs.Fault.{letterRefusal};
 ghost use Rattle.letters.specs.Wire.{letterBytes};
 ghost use Rattle.letter_report.specs.Report.{refusalText, claimsOrder};
-use letters::fault::LetterFault;
-use letters::letter::Letter;
-use orders::kind::Kind;
+use letters::Letter;
+use letters::LetterFault;
+use orders::Kind;
 use std::alloc::AllocError;
 use std::alloc::Global;
 
-pub mod brief;
-pub mod report;
+mod full;
+mod short;
+
+pub use full::report;
+pub use short::brief;
 
 /// A refusal as programs print it.
 pub(crate) fn refusal_text(heap: Global, fault: LetterFault) -> Result<String, AllocError>

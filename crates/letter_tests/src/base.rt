@@ -1,11 +1,11 @@
 //! One right letter of each kind, and how the tables change it.
-use letters::fault::LetterFault;
-use letters::letter::Letter;
-use orders::kind::Kind;
-use orders::number::LampNumber;
-use orders::number::packing::LampNumberKind;
-use orders::order::LampOrder;
-use orders::order::packing::LampOrderKind;
+use letters::Letter;
+use letters::LetterFault;
+use orders::Kind;
+use orders::LampNumber;
+use orders::LampNumberKind;
+use orders::LampOrder;
+use orders::LampOrderKind;
 use std::test::*;
 
 /// A letter with lamp 7 for its estimate.

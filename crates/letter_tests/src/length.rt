@@ -3,12 +3,12 @@ use crate::base::FITS;
 use crate::base::NUMBER;
 use crate::base::ORDER;
 use crate::base::answer;
-use letters::letter::Letter;
-use orders::kind::Kind;
-use orders::number::LampNumber;
-use orders::number::packing::LampNumberKind;
-use orders::order::LampOrder;
-use orders::order::packing::LampOrderKind;
+use letters::Letter;
+use orders::Kind;
+use orders::LampNumber;
+use orders::LampNumberKind;
+use orders::LampOrder;
+use orders::LampOrderKind;
 use std::test::*;
 
 /// Bytes enough for two letters that begin with this one.

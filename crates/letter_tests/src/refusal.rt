@@ -1,6 +1,6 @@
 //! What a fault of the letter layer comes to.
-use letters::fault::LetterFault;
-use orders::fault::OrderFault;
+use letters::LetterFault;
+use orders::OrderFault;
 use refusals::Layer;
 use refusals::LayerDebug;
 use refusals::LayerPartialEq;

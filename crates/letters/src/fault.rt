@@ -2,9 +2,9 @@
 ghost use mathlib.Core.Path.{_≡_};
 ghost use Rattle.letters.specs.Fault.{letterRefusal};
 ghost use Rattle.letters.specs.declared.fault.LetterFault.the-variants.{Order};
-use orders::fault::OrderFault;
-use orders::fault::OrderFaultDebug;
-use orders::fault::OrderFaultPartialEq;
+use orders::OrderFault;
+use orders::OrderFaultDebug;
+use orders::OrderFaultPartialEq;
 use refusals::Reason;
 use refusals::Refusal;
 

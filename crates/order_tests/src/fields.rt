@@ -1,5 +1,5 @@
 //! What the tables of both kinds share.
-use orders::fault::OrderFault;
+use orders::OrderFault;
 
 /// The place at which something is refused, if it is.
 pub(crate) type Answer = Option<usize>;

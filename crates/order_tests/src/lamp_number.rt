@@ -2,13 +2,13 @@
 use crate::fields::FITS;
 use crate::fields::answer;
 use crate::fields::with;
-use orders::fault::OrderFaultDebug;
-use orders::kind::Kind;
-use orders::kind::unpack;
-use orders::number::LampNumber;
-use orders::number::LampNumberDebug;
-use orders::number::LampNumberPartialEq;
-use orders::number::packing::LampNumberKind;
+use orders::Kind;
+use orders::LampNumber;
+use orders::LampNumberDebug;
+use orders::LampNumberKind;
+use orders::LampNumberPartialEq;
+use orders::OrderFaultDebug;
+use orders::unpack;
 use std::test::*;
 
 /// The field of lamp 7.

@@ -3,16 +3,16 @@ use crate::fields::Answer;
 use crate::fields::FITS;
 use crate::fields::answer;
 use crate::fields::with;
-use orders::character::Character;
-use orders::character::CharacterDebug;
-use orders::fault::OrderFaultDebug;
-use orders::kind::Kind;
-use orders::kind::unpack;
-use orders::number::LampNumber;
-use orders::order::LampOrder;
-use orders::order::LampOrderDebug;
-use orders::order::LampOrderPartialEq;
-use orders::order::packing::LampOrderKind;
+use orders::Character;
+use orders::CharacterDebug;
+use orders::Kind;
+use orders::LampNumber;
+use orders::LampOrder;
+use orders::LampOrderDebug;
+use orders::LampOrderKind;
+use orders::LampOrderPartialEq;
+use orders::OrderFaultDebug;
+use orders::unpack;
 use std::test::*;
 
 /// The first six bytes of a field: priority, lamp, code, count, and the period's high and low byte.

@@ -1,5 +1,5 @@
 //! What a fault of the order layer comes to.
-use orders::fault::OrderFault;
+use orders::OrderFault;
 use refusals::Layer;
 use refusals::LayerDebug;
 use refusals::LayerPartialEq;

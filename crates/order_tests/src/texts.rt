@@ -2,10 +2,10 @@
 use order_text::LampNumberPrintable;
 use order_text::LampOrderPrintable;
 use order_text::Printable;
-use orders::character::Character;
-use orders::fault::OrderFaultDebug;
-use orders::number::LampNumber;
-use orders::order::LampOrder;
+use orders::Character;
+use orders::LampNumber;
+use orders::LampOrder;
+use orders::OrderFaultDebug;
 use std::test::*;
 
 #[test]

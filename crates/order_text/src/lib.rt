@@ -5,12 +5,12 @@ ghost use Prim.Native.Nat.{ℕ};
 ghost use Rattle.std.specs.Of.String.{string-bytes};
 ghost use Rattle.std.specs.Vec.{made};
 ghost use Rattle.order_text.specs.Texts.{lampText, orderText};
-use orders::character::Character;
-use orders::kind::Kind;
-use orders::number::LampNumber;
-use orders::number::packing::LampNumberKind;
-use orders::order::LampOrder;
-use orders::order::packing::LampOrderKind;
+use orders::Character;
+use orders::Kind;
+use orders::LampNumber;
+use orders::LampNumberKind;
+use orders::LampOrder;
+use orders::LampOrderKind;
 use std::alloc::AllocError;
 use std::alloc::Global;
 

@@ -4,7 +4,7 @@ ghost use Prim.Native.Nat.{_≤_};
 ghost use Rattle.orders.specs.Fields.{stray};
 
 /// The first place from `start` on whose byte is not zero.
-pub fn first_stray(field: &[u8; 16], start: usize) -> Option<usize>
+pub(crate) fn first_stray(field: &[u8; 16], start: usize) -> Option<usize>
     requires { ⌜ start ≤ 16 ⌝ }
     ensures { λ r. ⌜ r ≡ stray start (now (field .entry)) ⌝ }
 {

@@ -1,4 +1,4 @@
-// The house's rule, read from a table of all sets.
+//! The house's rule, read from a table of all sets.
 ghost use mathlib.Core.Path.{_≡_};
 ghost use mathlib.Core.Bool.{true};
 ghost use lib.Dec.{eqb};
@@ -10,7 +10,7 @@ use crate::VotingRule;
 #[derive(Clone, Copy)]
 pub struct HouseTable;
 
-// 1 at each set that may decide, 16 sets to a line.
+/// 1 at each set that may decide, 16 sets to a line.
 #[rattlefmt::skip]
 const TABLE: [u8; 256] = [
     0, 0, 0, 0, 0, 0, 0, 0, 0, 0, 0, 0, 0, 0, 0, 1,
@@ -31,14 +31,14 @@ const TABLE: [u8; 256] = [
     0, 1, 1, 1, 1, 1, 1, 1, 1, 1, 1, 1, 1, 1, 1, 1,
 ];
 
-// The table has the house's answer at each set.
+/// The table has the house's answer at each set.
 fn table() -> &'static [u8; 256]
     ensures { λ r. ⌜ tells house 0 (now r) ≡ true ⌝ }
 {
     &TABLE
 }
 
-// What the table has at a set.
+/// What the table has at a set.
 fn entry(set: Members) -> u8
     ensures { λ r. ⌜ eqb r 1 ≡ house set ⌝ }
 {

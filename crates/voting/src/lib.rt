@@ -1,5 +1,5 @@
-//! Voting rules of a group of lamp controllers: which sets of controllers may decide,
-//! and the four laws that every such rule owes.
+//! Voting rules of a group of lamp controllers: which sets of controllers may decide, and the four laws that every
+//! such rule owes.
 ghost use mathlib.Core.Path.{_≡_};
 ghost use mathlib.Core.Bool.{Bool, true};
 ghost use Prim.Native.Nat.{ℕ, _<_, _≤_};
@@ -80,13 +80,6 @@ pub fn owes_laws<R: VotingRule>(rule: &R) -> bool
     has_group(rule)
 }
 
-// Whether the size that the rule answers is one that a group may have.
-fn has_group<R: VotingRule>(rule: &R) -> bool
-    ensures { λ r. ⌜ r ≡ sized (group (now (rule .entry))) ⌝ }
-{
-    is_group(usize::from(rule.size()))
-}
-
 /// Whether a controller is in the set: no number from the set's width on is.
 pub fn has(set: Members, member: u8) -> bool
     ensures { λ r. ⌜ r ≡ has set member ⌝ }
@@ -98,7 +91,21 @@ pub fn has(set: Members, member: u8) -> bool
     }
 }
 
-// One bit of the set.
+/// Whether a group may have this many controllers.
+pub fn is_group(size: usize) -> bool
+    ensures { λ r. ⌜ r ≡ sized size ⌝ }
+{
+    LEAST <= size && size <= usize::from(LIMIT)
+}
+
+/// Whether the size that the rule answers is one that a group may have.
+fn has_group<R: VotingRule>(rule: &R) -> bool
+    ensures { λ r. ⌜ r ≡ sized (group (now (rule .entry))) ⌝ }
+{
+    is_group(usize::from(rule.size()))
+}
+
+/// One bit of the set.
 fn bit(set: Members, member: u8) -> bool
     requires { ⌜ member < limit ⌝ }
     ensures { λ r. ⌜ r ≡ has set member ⌝ }
@@ -106,7 +113,7 @@ fn bit(set: Members, member: u8) -> bool
     (set >> member) % 2 == 1
 }
 
-// A set has no bit from its width on.
+/// A set has no bit from its width on.
 fn beyond(set: Members, member: u8) -> bool
     requires { ⌜ limit ≤ member ⌝ }
     ensures { λ r. ⌜ r ≡ has set member ⌝ }
@@ -114,7 +121,7 @@ fn beyond(set: Members, member: u8) -> bool
     false
 }
 
-// Whether the set has controllers below `size` only.
+/// Whether the set has controllers below `size` only.
 fn within(set: Members, size: usize) -> bool
     requires { ⌜ size ≤ limit ⌝ }
     ensures { λ r. ⌜ r ≡ within size set ⌝ }
@@ -122,20 +129,13 @@ fn within(set: Members, size: usize) -> bool
     Wide::from(set) >> size == 0
 }
 
-// How many of the controllers below `size` are in a set that has no others.
+/// How many of the controllers below `size` are in a set that has no others.
 fn count(set: Members, size: usize) -> u32
     requires { ⌜ within size set ≡ true ⌝ }
     ensures value { λ r. ⌜ r ≡ count size set ⌝ }
     ensures bound { λ r. ⌜ r ≤ limit ⌝ }
 {
     set.count_ones()
-}
-
-/// Whether a group may have this many controllers.
-pub fn is_group(size: usize) -> bool
-    ensures { λ r. ⌜ r ≡ sized size ⌝ }
-{
-    LEAST <= size && size <= usize::from(LIMIT)
 }
 
 #[cfg(test)]

@@ -1,4 +1,4 @@
-// A rule by majority, as a value: its size is one for which the laws are owed.
+//! A rule by majority, as a value: its size is one for which the laws are owed.
 ghost use lib.Dec.{T};
 ghost use Rattle.voting.specs.Voting.{sized};
 

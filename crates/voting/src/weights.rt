@@ -1,4 +1,4 @@
-// A rule by weights, as a value: as many weights as a group may have, none too large and not all zero.
+//! A rule by weights, as a value: as many weights as a group may have, none too large and not all zero.
 ghost use lib.Dec.{T, leb};
 ghost use lib.ListN.{length, take};
 ghost use Rattle.voting.specs.Rules.{fair};

@@ -15,7 +15,7 @@ use crate::fault::LetterFaultFromOrder;
 use crate::letter::Content;
 use crate::letter::Letter;
 use crate::phase::Phase;
-use orders::kind::Kind;
+use orders::Kind;
 use voting::is_group;
 
 /// The last round in which letters are sent.

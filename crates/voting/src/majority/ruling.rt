@@ -1,4 +1,4 @@
-// How a majority is made, and which sets it accepts.
+//! How a majority is made, and which sets it accepts.
 ghost use mathlib.Core.Path.{_≡_};
 ghost use Rattle.voting.specs.Makes.{majorityOf};
 ghost use Rattle.voting.specs.Rules.{majority};

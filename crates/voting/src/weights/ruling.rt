@@ -1,4 +1,4 @@
-// How a rule by weights is made, and which sets it accepts.
+//! How a rule by weights is made, and which sets it accepts.
 ghost use mathlib.Core.Bool.{cond};
 ghost use mathlib.Core.Path.{_≡_};
 ghost use Prim.Native.Nat.{_≤_, _*_};
@@ -39,7 +39,7 @@ impl Weights {
         })
     }
 
-    // The weights, without the padding.
+    /// The weights, without the padding.
     fn row(&self) -> &[u16]
         ensures { λ r. ⌜ now r ≡ take (now (self .entry) .size) (now (self .entry) .weights) ⌝ }
     {
@@ -62,7 +62,7 @@ pub impl VotingRule for Weights as WeightsRule {
     }
 }
 
-// The row, and zeros after it.
+/// The row, and zeros after it.
 fn padded(row: &[u16]) -> [u16; ROOM]
     requires { ⌜ length (now row) ≤ limit ⌝ }
     ensures { λ r. ⌜ take (length (now (row .entry))) r ≡ now (row .entry) ⌝ }
@@ -72,7 +72,7 @@ fn padded(row: &[u16]) -> [u16; ROOM]
     weights
 }
 
-// Whether the set has members of the row only, and more than half of all weight.
+/// Whether the set has members of the row only, and more than half of all weight.
 fn outweighs(row: &[u16], set: Members) -> bool
     requires { ⌜ length (now row) ≤ limit ⌝ }
     ensures { λ r. ⌜ r ≡ outweighs (now (row .entry)) set ⌝ }
@@ -80,7 +80,7 @@ fn outweighs(row: &[u16], set: Members) -> bool
     within(set, row.len()) && total(row) < 2 * weigh(row, set)
 }
 
-// Whether the weights can vote.
+/// Whether the weights can vote.
 fn fair(row: &[u16]) -> bool
     requires { ⌜ length (now row) ≤ limit ⌝ }
     ensures { λ r. ⌜ r ≡ fair (now (row .entry)) ⌝ }
@@ -88,7 +88,7 @@ fn fair(row: &[u16]) -> bool
     light(row) && 0 < total(row)
 }
 
-// Whether no weight is too large.
+/// Whether no weight is too large.
 fn light(row: &[u16]) -> bool
     ensures { λ r. ⌜ r ≡ light (now (row .entry)) ⌝ }
 {
@@ -100,14 +100,14 @@ fn light(row: &[u16]) -> bool
     true
 }
 
-// Whether one weight is not too large.
+/// Whether one weight is not too large.
 fn is_light(weight: u16) -> bool
     ensures { λ r. ⌜ r ≡ leb weight heaviest ⌝ }
 {
     weight <= HEAVIEST
 }
 
-// The sum of all weights.
+/// The sum of all weights.
 fn total(row: &[u16]) -> u32
     requires { ⌜ length (now row) ≤ limit ⌝ }
     ensures { λ r. ⌜ r ≡ total (now (row .entry)) ⌝ }
@@ -119,7 +119,7 @@ fn total(row: &[u16]) -> u32
     sum
 }
 
-// The sum of the members' weights.
+/// The sum of the members' weights.
 fn weigh(row: &[u16], set: Members) -> u32
     requires { ⌜ length (now row) ≤ limit ⌝ }
     ensures value { λ r. ⌜ r ≡ weighFrom 0 set (now (row .entry)) ⌝ }
@@ -132,7 +132,7 @@ fn weigh(row: &[u16], set: Members) -> u32
     sum
 }
 
-// What one controller adds to the members' weight.
+/// What one controller adds to the members' weight.
 fn weight_of(set: Members, member: u8, weight: u16) -> u32
     ensures value { λ r. ⌜ r ≡ cond (has set member) weight 0 ⌝ }
     ensures bound { λ r. ⌜ r ≤ 65535 ⌝ }

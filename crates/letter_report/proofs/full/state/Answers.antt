@@ -1,5 +1,5 @@
 use borrow.Author.Needs.{needs}
-use Rattle.letter_report.proofs.report.state.Needs as need
+use Rattle.letter_report.proofs.full.state.Needs as need
 
 pub returns : need.returns
 returns g c =

@@ -6,7 +6,7 @@ use borrow.Author.Needs.{needs}
 use Rattle.std.specs.Of.String.{string-bytes}
 use Rattle.std.specs.Vec.{made}
 use Rattle.letter_report.specs.Report.{stateText}
-use Rattle.letter_report.proofs.report.told_letter.Needs as need
+use Rattle.letter_report.proofs.full.told_letter.Needs as need
 
 -- the text is the three parts one after the other, each of which is known
 pub returns : need.returns
