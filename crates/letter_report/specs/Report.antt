@@ -16,7 +16,8 @@ use Rattle.orders.specs.LampOrders.{orderMeaning}
 use Rattle.order_text.specs.Texts.{lampText, orderText}
 use Rattle.letters.specs.Fault.{letterRefusal}
 use Rattle.letters.specs.Phases.{phaseWord}
-use Rattle.letters.specs.Wire.{flagByte, reading}
+use Rattle.letters.specs.Heads.{flagByte}
+use Rattle.letters.specs.Wire.{reading}
 use Rattle.letters.specs.declared.fault.LetterFault.{LetterFault}
 use Rattle.letters.specs.declared.letter.Letter.{Letter}
 

@@ -16,11 +16,11 @@ use Rattle.refusals.proofs.Choices.{so, wrongAt-none}
 use Rattle.voting.specs.Voting.{sized}
 use Rattle.letters.specs.Limits.{isRound, onTime, lastRound}
 use Rattle.letters.specs.Phases.{phaseByte, isPhase, phaseAt}
-use Rattle.letters.specs.Wire.{flagByte, fourBytes, numberAt, headBytes, headIn, headFits, headWrong}
+use Rattle.letters.specs.Heads.{flagByte, fourBytes, numberAt, headBytes, headIn, headFits, headWrong}
 use Rattle.letters.specs.declared.letter.wire.Head.{Head}
 use Rattle.letters.specs.declared.phase.Phase.{Phase}
 use Rattle.letters.specs.declared.phase.Phase.the-variants.{Prepare, Commit, Decide}
-use Rattle.letters.proofs.Wire.{phase-back, phase-byte, flag-back, flag-byte, number-back, number-bytes}
+use Rattle.letters.proofs.Bytes.{phase-back, phase-byte, flag-back, flag-byte, number-back, number-bytes}
 
 -- the rules that a head keeps
 pub record Kept (h : Head) : Type 0 where

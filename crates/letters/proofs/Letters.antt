@@ -18,7 +18,8 @@ use Rattle.orders.specs.Kinds.{Meaning, Lawful, unpacking}
 use Rattle.orders.specs.declared.fault.OrderFault.{OrderFault}
 use Rattle.refusals.proofs.Choices.{is-so, ifSo-made, ifSo-from, ok-from, exact-kept, exact-bytes}
 use Rattle.orders.proofs.Unpacking.{unpacks}
-use Rattle.letters.specs.Wire.{headBytes, headOf, headIn, headFits, headWrong, firstWrong, unlessWrong, headReading, letterWith, letterBytes, letterIn, faultIn, reading, ReadExactly}
+use Rattle.letters.specs.Heads.{headBytes, headIn, headFits, headWrong, unlessWrong, headReading}
+use Rattle.letters.specs.Wire.{headOf, firstWrong, letterWith, letterBytes, letterIn, faultIn, reading, ReadExactly}
 use Rattle.letters.specs.declared.fault.LetterFault.{LetterFault}
 use Rattle.letters.specs.declared.fault.LetterFault.the-variants.{Garbled, Order}
 use Rattle.letters.specs.declared.letter.Letter.{Letter}

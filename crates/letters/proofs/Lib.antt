@@ -1,3 +1,3 @@
-pub mod Wire
+pub mod Bytes
 pub mod Heads
 pub mod Letters

@@ -1,7 +1,7 @@
 use mathlib.Core.Path.{_∙_}
 use borrow.Author.Needs.{needs}
 use lib.ListN.{length-append, replicate}
-use Rattle.letters.proofs.Wire.{halves}
+use Rattle.letters.proofs.Bytes.{halves}
 use Rattle.letters.proofs.letter.wire.join.Needs as need
 
 pub part-bytes-end-2 : need.part-bytes-end-2

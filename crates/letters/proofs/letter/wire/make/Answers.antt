@@ -1,7 +1,8 @@
 use mathlib.Core.Path.{ap}
 use borrow.Author.Needs.{needs}
 use Rattle.std.specs.Options.{okOr, valueOr}
-use Rattle.letters.specs.Wire.{making, ruleBroken}
+use Rattle.letters.specs.Heads.{ruleBroken}
+use Rattle.letters.specs.Wire.{making}
 use Rattle.letters.specs.declared.fault.LetterFault.the-variants.{Garbled}
 use Rattle.letters.proofs.letter.wire.make.Needs as need
 

@@ -4,7 +4,7 @@ use borrow.Author.Needs.{needs}
 use Rattle.std.proofs.shelf.Results.{err-from-errBy}
 use Rattle.std.specs.declared.result.Result.the-variants.{Ok, Err}
 use Rattle.orders.specs.Kinds.{unpacking}
-use Rattle.letters.specs.Wire.{headReading}
+use Rattle.letters.specs.Heads.{headReading}
 use Rattle.letters.proofs.Letters.{wrong-head, wrong-estimate, right-letter, head-fits}
 use Rattle.letters.proofs.letter.wire.read_letter.Needs as need
 

@@ -1,4 +1,4 @@
--- A letter's bytes and the letter in them determine each other.
+-- Each field of a letter and its bytes determine each other, and two halves of 16 bytes fill a row of 32.
 use mathlib.Core.Path.{_≡_, refl, sym, ap, _∙_}
 use mathlib.Core.Bool.{Bool, true, false}
 use mathlib.Core.List.{List, [], _∷_, _++_}
@@ -13,7 +13,7 @@ use Rattle.std.proofs.shelf.Parts.{putMid-paste}
 use Rattle.std.proofs.shelf.Lists.{append-nil, take-at, take-all, drop-all}
 use Rattle.std.proofs.shelf.Tests.{leb-true, and-parts}
 use Rattle.letters.specs.Phases.{phaseByte, isPhase, phaseAt}
-use Rattle.letters.specs.Wire.{flagByte, fourBytes}
+use Rattle.letters.specs.Heads.{flagByte, fourBytes}
 use Rattle.letters.specs.declared.phase.Phase.{Phase}
 use Rattle.letters.specs.declared.phase.Phase.the-variants.{Prepare, Commit, Decide}
 
