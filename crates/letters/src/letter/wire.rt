@@ -323,30 +323,18 @@ fn with_estimate<K: Kind>(head: &[u8; 16], letter: &Letter<K>) -> [u8; 32]
 }
 
 /// The first 16 bytes of a letter, for a kind of this width.
+#[rattlefmt::skip]
 fn write_head(head: Head, width: u8) -> [u8; 16]
     ensures { λ r. ⌜ r ≡ headBytes width head [] ⌝ }
 {
+    let Head { size, sender, leader, .. } = head;
     let phase = head.phase.byte();
     let approved = u8::from(head.approved);
     let [r0, r1, r2, r3] = head.round.to_be_bytes();
     let [t0, t1, t2, t3] = head.timestamp.to_be_bytes();
     [
-        phase,
-        head.size,
-        head.sender,
-        head.leader,
-        approved,
-        width,
-        0,
-        0,
-        r0,
-        r1,
-        r2,
-        r3,
-        t0,
-        t1,
-        t2,
-        t3,
+        phase, size, sender, leader, approved, width, 0, 0,
+        r0, r1, r2, r3, t0, t1, t2, t3,
     ]
 }
 

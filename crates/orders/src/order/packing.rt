@@ -52,27 +52,14 @@ pub impl Kind for LampOrder as LampOrderKind {
         WIDTH
     }
 
+    // The bytes stand on one line, as they do in a field.
+    #[rattlefmt::skip]
     fn pack(&self) -> [u8; 16] {
         let character = self.character;
+        let (priority, lamp) = (self.priority, self.lamp.number);
+        let (code, count) = (character.code(), character.count());
         let [high, low] = character.period().to_be_bytes();
-        [
-            self.priority,
-            self.lamp.number,
-            character.code(),
-            character.count(),
-            high,
-            low,
-            0,
-            0,
-            0,
-            0,
-            0,
-            0,
-            0,
-            0,
-            0,
-            0,
-        ]
+        [priority, lamp, code, count, high, low, 0, 0, 0, 0, 0, 0, 0, 0, 0, 0]
     }
 
     fn unpack(field: &[u8; 16]) -> Result<LampOrder, OrderFault> {
