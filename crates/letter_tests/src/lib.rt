@@ -1,4 +1,5 @@
-//! Letters at their boundaries: which bytes read, where the others are refused, and what letters can be made.
+//! Letters at their boundaries: which bytes read, where the others are refused, which letters can be made,
+//! and what is reported of them.
 //! The crate has nothing but tests.
 #[cfg(test)]
 mod base;
@@ -14,3 +15,5 @@ mod length;
 mod making;
 #[cfg(test)]
 mod refusal;
+#[cfg(test)]
+mod report;
