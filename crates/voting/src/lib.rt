@@ -164,15 +164,35 @@ mod tests {
         check_eq(fault(&[0, 0]), Some(RuleFault::Ballot))
     }
 
-    #[test]
-    fn sets_that_decide() -> Result<(), Fail> {
-        let weights = Weights::new(&[3, 1, 1])?;
-        for (set, accepted) in [(1, true), (6, false)] {
-            check_eq(weights.accepts(set), accepted)?;
-        }
-        for (set, accepted) in [(15, true), (30, false)] {
-            check_eq(HouseTable.accepts(set), accepted)?;
+    // The rule accepts just the sets that the rows say.
+    fn check_sets<R: VotingRule>(rule: &R, rows: &[(Members, bool)]) -> Result<(), Fail> {
+        for (set, accepted) in rows {
+            check_eq(rule.accepts(*set), *accepted).note(*set)?;
         }
         Ok(())
+    }
+
+    #[rattlefmt::skip]
+    #[test]
+    fn sets_that_decide_by_majority() -> Result<(), Fail> {
+        check_sets(&Majority::new(2)?, &[(0, false), (1, false), (2, false), (3, true)])?;
+        check_sets(&Majority::new(3)?, &[(1, false), (3, true), (6, true), (7, true), (9, false), (15, false)])?;
+        check_sets(&Majority::new(8)?, &[(0x0F, false), (0x1F, true), (0xF0, false), (0xF8, true), (0xFF, true)])
+    }
+
+    #[rattlefmt::skip]
+    #[test]
+    fn sets_that_decide_by_weight() -> Result<(), Fail> {
+        check_sets(&Weights::new(&[3, 1, 1])?, &[(1, true), (6, false), (7, true), (9, false)])?;
+        // Half of all weight is not more than half.
+        check_sets(&Weights::new(&[2, 1, 1])?, &[(1, false), (3, true), (6, false)])?;
+        check_sets(&Weights::new(&[0, 1000])?, &[(1, false), (2, true), (3, true)])
+    }
+
+    #[rattlefmt::skip]
+    #[test]
+    fn sets_that_decide_by_the_house() -> Result<(), Fail> {
+        check_sets(&HouseTable, &[(0x0F, true), (0x1E, false), (0x1F, true), (0x3E, true)])?;
+        check_sets(&HouseTable, &[(0xF0, false), (0xE1, true), (0x07, false), (0, false), (0xFF, true)])
     }
 }

@@ -4,7 +4,7 @@ ghost use mathlib.Core.Path.{_≡_};
 ghost use Prim.Native.Nat.{_≤_, _*_};
 ghost use lib.Dec.{leb};
 ghost use lib.ListN.{length, take};
-ghost use Rattle.voting.specs.Makes.{rowOf, ballotOf};
+ghost use Rattle.voting.specs.Makes.{padded, ballotOf};
 ghost use Rattle.voting.specs.Rules.{total, weighFrom, outweighs, heaviest, light, fair};
 ghost use Rattle.voting.specs.Sets.{has};
 ghost use Rattle.voting.specs.Voting.{limit};
@@ -25,7 +25,7 @@ impl Weights {
     /// A length outside 2 to `LIMIT` is refused as `RuleFault::Size`, and then a weight above 1,000,
     /// or none above zero, as `RuleFault::Ballot`.
     pub fn new(row: &[u16]) -> Result<Weights, RuleFault>
-        ensures { λ r. ⌜ rowOf r ≡ ballotOf (now (row .entry)) ⌝ }
+        ensures { λ r. ⌜ r ≡ ballotOf (now (row .entry)) ⌝ }
     {
         if !is_group(row.len()) {
             return Err(RuleFault::Size);
@@ -65,7 +65,8 @@ pub impl VotingRule for Weights as WeightsRule {
 /// The row, and zeros after it.
 fn padded(row: &[u16]) -> [u16; ROOM]
     requires { ⌜ length (now row) ≤ limit ⌝ }
-    ensures { λ r. ⌜ take (length (now (row .entry))) r ≡ now (row .entry) ⌝ }
+    ensures value { λ r. ⌜ r ≡ padded (now (row .entry)) ⌝ }
+    ensures front { λ r. ⌜ take (length (now (row .entry))) r ≡ now (row .entry) ⌝ }
 {
     let mut weights = [0; ROOM];
     weights[0..row.len()].copy_from_slice(row);
