@@ -19,7 +19,7 @@ use Rattle.orders.specs.declared.fault.OrderFault.{OrderFault}
 use Rattle.refusals.proofs.Choices.{is-so, ifSo-made, ifSo-from, ok-from, exact-kept, exact-bytes}
 use Rattle.orders.proofs.Unpacking.{unpacks}
 use Rattle.letters.specs.Heads.{headBytes, headIn, headFits, headWrong, unlessWrong, headReading}
-use Rattle.letters.specs.Wire.{headOf, firstWrong, letterWith, letterBytes, letterIn, faultIn, reading, ReadExactly}
+use Rattle.letters.specs.Wire.{headOf, firstWrong, letterAs, letterWith, letterBytes, letterIn, faultIn, reading, ReadExactly}
 use Rattle.letters.specs.declared.fault.LetterFault.{LetterFault}
 use Rattle.letters.specs.declared.fault.LetterFault.the-variants.{Garbled, Order}
 use Rattle.letters.specs.declared.letter.Letter.{Letter}
@@ -27,9 +27,8 @@ use Rattle.letters.specs.declared.letter.wire.Head.{Head}
 use Rattle.letters.proofs.Heads.{rules, head-back, head-right, head-kept, head-bytes}
 
 -- a letter made of a head and an estimate
-pub letter-made : {V : Type 0} (h : Head) (v : V) (fits : T (headFits h)) → Some (record { size = h .size; sender = h .sender; round = h .round; content = record { phase = h .phase; leader = h .leader; approved = h .approved; timestamp = h .timestamp; estimate = v }; ok = fits }) ≡ letterWith h (Some v)
-letter-made h v fits =
-    sym (ifSo-made (headFits h) (λ t. record { size = h .size; sender = h .sender; round = h .round; content = record { phase = h .phase; leader = h .leader; approved = h .approved; timestamp = h .timestamp; estimate = v }; ok = t }) fits)
+pub letter-made : {V : Type 0} (h : Head) (v : V) (fits : T (headFits h)) → Some (letterAs h v fits) ≡ letterWith h (Some v)
+letter-made h v fits = sym (ifSo-made (headFits h) (letterAs h v) fits)
 
 pub letter-of : {V : Type 0} (m : Letter V) → letterWith (headOf m) (Some (m .content .estimate)) ≡ Some m
 letter-of m = sym (letter-made (headOf m) (m .content .estimate) (m .ok))
@@ -37,7 +36,7 @@ letter-of m = sym (letter-made (headOf m) (m .content .estimate) (m .ok))
 -- its head and its estimate are those that it is made of
 made-of : {V : Type 0} (h : Head) (v : V) (m : Letter V) → Some m ≡ letterWith h (Some v) → (headOf m ≡ h) × (m .content .estimate ≡ v)
 made-of h v m e =
-    let from = ifSo-from (headFits h) (λ t. record { size = h .size; sender = h .sender; round = h .round; content = record { phase = h .phase; leader = h .leader; approved = h .approved; timestamp = h .timestamp; estimate = v }; ok = t }) m (sym e) in
+    let from = ifSo-from (headFits h) (letterAs h v) m (sym e) in
     (ap headOf (from .1), ap (λ l. l .content .estimate) (from .1))
 
 -- what an answer says of the fields before

@@ -2,7 +2,7 @@
 use mathlib.Core.Path.{_≡_}
 use mathlib.Core.List.{List}
 use Prim.Native.Nat.{ℕ}
-use lib.Dec.{eqb}
+use lib.Dec.{T, eqb}
 use lib.ListN.{length, drop}
 use Rattle.std.specs.Options.{okOr, valueOr}
 use Rattle.std.specs.declared.option.Option.{Option}
@@ -39,16 +39,20 @@ headOf m = headFor (m .size) (m .sender) (m .round) (m .content)
 abbrev pub firstWrong : ℕ → List ℕ → Option ℕ
 firstWrong wide bytes = wrongAt (eqb (length bytes) 32) 32 (headWrong wide bytes)
 
--- the letter with this head and estimate, where the head keeps the rules
-abbrev pub letterWith : {V : Type 0} → Head → Option V → Option (Letter V)
-letterWith h None = None
-letterWith h (Some v) = ifSo (headFits h) (λ fits. record {
+-- the letter with this head, which keeps the rules, and this estimate
+abbrev pub letterAs : {V : Type 0} (h : Head) → V → T (headFits h) → Letter V
+letterAs h v fits = record {
   size = h .size;
   sender = h .sender;
   round = h .round;
   content = record { phase = h .phase; leader = h .leader; approved = h .approved; timestamp = h .timestamp; estimate = v };
   ok = fits;
-})
+}
+
+-- the same, where the head keeps the rules and there is an estimate
+abbrev pub letterWith : {V : Type 0} → Head → Option V → Option (Letter V)
+letterWith h None = None
+letterWith h (Some v) = ifSo (headFits h) (letterAs h v)
 
 -- what making a letter of a head and an estimate answers
 unfoldable pub making : {V : Type 0} → Head → V → Result (Letter V) LetterFault

@@ -27,14 +27,19 @@ pub record Meaning (V : Type 0) : Type 0 where
 
 -- the laws of a kind
 pub record Lawful {V : Type 0} (m : Meaning V) : Type 0 where
+  -- a value takes 1 to 16 bytes
   pub narrowest : 1 ≤ m .wide
   pub widest : m .wide ≤ 16
+  -- a field has 16 bytes, with zeros from the width on
   pub long : (v : V) → length (m .packed v) ≡ 16
   pub bytes : (v : V) (i : ℕ) → getD (m .packed v) i 0 < 256
   pub zeros : (v : V) (i : ℕ) → m .wide ≤ i → getD (m .packed v) i 0 ≡ 0
+  -- unpacking a packed value gives that value, and what unpacks packs to the field it came from
   pub back : (v : V) → m .unpacked (m .packed v) ≡ Some v
   pub exactly : (field : List ℕ) (v : V) → m .unpacked field ≡ Some v → m .packed v ≡ field
+  -- the place of a refusal lies in the field
   pub placed : (field : List ℕ) → length field ≡ 16 → m .misplaced field < 16
+  -- the ranking is total, transitive and antisymmetric
   pub total : (x y : V) → (m .ranks x y ≡ true) ⊎ (m .ranks y x ≡ true)
   pub trans : (x y z : V) → m .ranks x y ≡ true → m .ranks y z ≡ true → m .ranks x z ≡ true
   pub antisym : (x y : V) → m .ranks x y ≡ true → m .ranks y x ≡ true → x ≡ y

@@ -23,6 +23,7 @@ packLamp v = v .number ∷ replicate 15 0
 abbrev pub lampWrong : List ℕ → Option ℕ
 lampWrong field = wrongAt (isLamp (getD field 0 0)) 0 (stray 1 field)
 
+-- the kind: a field is unpacked to the lamp that packs to it
 abbrev pub lampMeaning : Meaning LampNumber
 lampMeaning = record {
   wide = 1;

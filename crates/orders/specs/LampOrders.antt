@@ -61,6 +61,7 @@ atLeast [] ys = true
 atLeast (x ∷ xs) [] = true
 atLeast (x ∷ xs) (y ∷ ys) = cond (eqb x y) (atLeast xs ys) (ltb y x)
 
+-- the kind: a field is unpacked to the order that packs to it
 abbrev pub orderMeaning : Meaning LampOrder
 orderMeaning = record {
   wide = 6;
