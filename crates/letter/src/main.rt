@@ -1,4 +1,6 @@
 //! Says what one captured letter holds: reads it from standard input and prints the report.
+#![tactic(auto)]
+
 use letter_report::report;
 use std::io::Read;
 

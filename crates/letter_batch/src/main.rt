@@ -1,5 +1,7 @@
 //! Answers many letters, one line each, so that the answers can be compared with a second program's.
 //! Standard input has a letter a line, in hexadecimal.
+#![tactic(auto)]
+
 mod hex;
 
 use anyhow::anyhow;

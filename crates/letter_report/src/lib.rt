@@ -1,4 +1,6 @@
 //! What the bytes of one letter hold, in words: line by line for a person, or in one line for a comparison.
+#![tactic(auto)]
+
 ghost use Rattle.std.specs.Prelude.{◌≡◌, IfOk, string_bytes, Decides};
 ghost use Rattle.letters.specs.Fault.{letter_refusal};
 ghost use Rattle.letters.specs.Wire.{letter_bytes};

@@ -1,6 +1,8 @@
 //! Letters at their boundaries: which bytes read, where the others are refused, which letters can be made,
 //! and what is reported of them.
 //! The crate has nothing but tests.
+#![tactic(auto)]
+
 #[cfg(test)]
 mod base;
 #[cfg(test)]

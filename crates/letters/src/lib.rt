@@ -1,4 +1,6 @@
 //! Letters: what one controller tells the others in a round, and the 32 bytes in which it is sent.
+#![tactic(auto)]
+
 mod fault;
 mod letter;
 mod phase;

@@ -1,4 +1,6 @@
 //! Kinds of order that can be printed, and the texts of the two shipped kinds.
+#![tactic(auto)]
+
 ghost use Rattle.std.specs.Prelude.{◌≡◌, ℕ, List, IfOk, string_bytes};
 ghost use Rattle.order_text.specs.Texts.{text_of_lamp, text_of_order};
 

@@ -11,36 +11,36 @@ pub trait Kind: Copy {
 
     /// How many bytes of the field a value takes; the others are zero.
     fn width() -> u8
-        ensures { result ≡ meaning.wide };
+        ensures { result ≡ Meaning.wide };
 
     /// The field of a value.
     fn pack(&self) -> [u8; 16]
-        ensures { result ≡ meaning.packed self.now };
+        ensures { result ≡ Meaning.packed self.now };
 
     /// The value that packs to the field. Refused as unreadable exactly when there is none.
     fn unpack(field: &[u8; 16]) -> Result<Self, OrderFault>
-        ensures { result ≡ unpacking meaning field.now };
+        ensures { result ≡ unpacking Meaning field.now };
 
     /// Whether this value ranks at least as high as the other.
     fn ranks_at_least(&self, other: &Self) -> bool
-        ensures { result ≡ meaning.ranks self.now other.now };
+        ensures { result ≡ Meaning.ranks self.now other.now };
 
     // What each kind must show.
-    ghost lawful: { Lawful meaning };
+    ghost lawful: { Lawful Meaning };
 }
 
 /// How many bytes of the field a value takes. That the kind shows its laws stands here too.
 pub fn width_of<K: Kind>() -> u8
-    ensures value { result ≡ meaning.wide }
-    ensures laws { Lawful meaning }
+    ensures value { result ≡ Meaning.wide }
+    ensures laws { Lawful Meaning }
 {
     K::width()
 }
 
 /// The value that packs to the field. Refused as unreadable, at a place in the field, exactly when no value does.
 pub fn unpack<K: Kind>(field: &[u8; 16]) -> Result<K, OrderFault>
-    ensures value { result ≡ unpacking meaning field.now }
-    ensures exact { MatchResult result (λ v. meaning.packed v ≡ field.now) (λ e. (e.place < 16) × ((v : K) → meaning.packed v ≢ field.now)) }
+    ensures value { result ≡ unpacking Meaning field.now }
+    ensures exact { MatchResult result (λ v. Meaning.packed v ≡ field.now) (λ e. (e.place < 16) × ((v : K) → Meaning.packed v ≢ field.now)) }
 {
     K::unpack(field)
 }

@@ -1,5 +1,7 @@
 //! Why the unit turns something down: every refusal has a reason, which fixes its number, its word
 //! and its layer, and a place. Each layer has a fault type of its own that comes down to one of these.
+#![tactic(auto)]
+
 ghost use Rattle.std.specs.Prelude.{◌≡◌};
 ghost use Rattle.refusals.specs.Refusals.{number_of, word_of, layer_of};
 

@@ -1,5 +1,7 @@
 //! What a round gives a controller, and what holds of every history of rounds: agreement, validity and decision. It is
 //! mathematics on the contents of letters, for every kind of order and every voting rule, and the ground of the calls above.
+#![tactic(auto)]
+
 ghost use Rattle.std.specs.Prelude.{◌≡◌, true};
 ghost use Rattle.voting.specs.Voting.{sized};
 ghost use Rattle.rounds.specs.History.{EveryHistory, EveryPlay};

@@ -1,5 +1,7 @@
 //! Voting rules of a group of lamp controllers: which sets of controllers may decide, and the four laws that every
 //! such rule owes.
+#![tactic(auto)]
+
 ghost use Rattle.std.specs.Prelude.{◌≡◌, ℕ, ◌<◌, ◌≤◌, Bool, true};
 ghost use Rattle.voting.specs.Faults.{rule_refusal};
 ghost use Rattle.voting.specs.Sets.{has, within, count};
@@ -69,8 +71,8 @@ impl RuleFault {
 
 /// Whether the rule's group is of a size for which the laws are owed, and so hold.
 pub fn owes_laws<R: VotingRule>(rule: &R) -> bool
-    ensures value { result ≡ sized (group rule.now) }
-    ensures laws { result ≡ true → Lawful (group rule.now) (accepted rule.now) }
+    ensures value { result ≡ sized (R.group rule.now) }
+    ensures laws { result ≡ true → Lawful (R.group rule.now) (R.accepted rule.now) }
 {
     has_group(rule)
 }
@@ -95,7 +97,7 @@ pub fn is_group(size: usize) -> bool
 
 /// Whether the size that the rule answers is one that a group may have.
 fn has_group<R: VotingRule>(rule: &R) -> bool
-    ensures { result ≡ sized (group rule.now) }
+    ensures { result ≡ sized (R.group rule.now) }
 {
     is_group(usize::from(rule.size()))
 }

@@ -4,5 +4,5 @@ use Rattle.voting.proofs.owes_laws.Goals as goal
 
 pub returns : goal.returns
 returns g c =
-    let tested = c.has-group.ensures in
+    let tested = c.has_group.ensures in
     record { value = tested; laws = λ owed. g.met.R.VotingRule.lawful c.args.rule.now (sym tested ∙ owed) }

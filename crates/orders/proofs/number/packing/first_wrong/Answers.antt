@@ -3,4 +3,4 @@ use Rattle.orders.proofs.number.packing.first_wrong.Goals as goal
 
 pub returns : goal.returns
 returns c =
-    record { value = c.wrong-place.ensures; refused = lamp_refuses c.args.field.now c.wrong-place.result c.wrong-place.ensures }
+    record { value = c.wrong_place.ensures; refused = lamp_refuses c.args.field.now c.wrong_place.result c.wrong_place.ensures }

@@ -8,4 +8,4 @@ invariant-of-result-2 c =
 
 pub returns : goal.returns
 returns c =
-    order_unpacks c.args.field.now c.requires (search rules) (search rules) _ refl refl c.period-in.result c.period-in.ensures c.of.ensures
+    order_unpacks c.args.field.now c.requires (search rules) (search rules) _ refl refl c.period_in.result c.period_in.ensures c.of.ensures

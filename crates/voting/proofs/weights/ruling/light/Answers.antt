@@ -11,7 +11,7 @@ returns-then-not-is-light c =
 
 pub loop-weight-preserved : goal.loop-weight-preserved
 loop-weight-preserved c =
-    light_turn c.args.row.now c.loop-weight.weight-index c.loop-weight-test.true true c.if-not-is-light.ensures c.loop-weight.invariant
+    light_turn c.args.row.now c.loop-weight.weight-index c.loop-weight-test.true true c.if-not-is_light.ensures c.loop-weight.invariant
 
 pub returns : goal.returns
 returns c =

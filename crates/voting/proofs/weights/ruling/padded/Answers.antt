@@ -5,8 +5,8 @@ use Rattle.voting.proofs.weights.ruling.padded.Goals as goal
 
 pub returns : goal.returns
 returns c =
-    let after = c.copy-from-slice.ensures.after in
+    let after = c.copy_from_slice.ensures.after in
     record {
-      value = copied_whole limit c.copy-from-slice.new.self c.args.row.now after c.requires;
-      front = copied_front c.copy-from-slice.new.self _ c.args.row.now after;
+      value = copied_whole limit c.copy_from_slice.new.self c.args.row.now after c.requires;
+      front = copied_front c.copy_from_slice.new.self _ c.args.row.now after;
     }
