@@ -23,7 +23,7 @@ pub fn report(heap: Global, bytes: &[u8]) -> Result<String, AllocError>
 
 /// How many bytes there are, and what they hold as a letter of this kind.
 fn report_as<K: Printable>(heap: Global, bytes: &[u8]) -> Result<String, AllocError>
-    ensures { IfOk result (λ s. string_bytes s ≡ report_as K.Kind.meaning shown bytes.now) }
+    ensures { IfOk result (λ s. string_bytes s ≡ report_as K.Kind.meaning K.shown bytes.now) }
 {
     let count = bytes.len();
     let said = told::<K>(heap, bytes)?;
@@ -32,7 +32,7 @@ fn report_as<K: Printable>(heap: Global, bytes: &[u8]) -> Result<String, AllocEr
 
 /// What the bytes hold as a letter of this kind.
 fn told<K: Printable>(heap: Global, bytes: &[u8]) -> Result<String, AllocError>
-    ensures { IfOk result (λ s. string_bytes s ≡ told_of K.Kind.meaning shown (reading K.Kind.meaning bytes.now)) }
+    ensures { IfOk result (λ s. string_bytes s ≡ told_of K.Kind.meaning K.shown (reading K.Kind.meaning bytes.now)) }
 {
     match Letter::<K>::read(bytes) {
         Ok(letter) => told_letter(heap, &letter, bytes),
@@ -50,7 +50,7 @@ fn told_letter<K: Printable>(
     bytes: &[u8],
 ) -> Result<String, AllocError>
     requires { letter_bytes K.Kind.meaning letter.now ≡ bytes.now }
-    ensures { IfOk result (λ s. string_bytes s ≡ told_of K.Kind.meaning shown (Ok letter.now)) }
+    ensures { IfOk result (λ s. string_bytes s ≡ told_of K.Kind.meaning K.shown (Ok letter.now)) }
 {
     let speakers = parties(heap, letter)?;
     let holds = state(heap, letter)?;
@@ -60,7 +60,7 @@ fn told_letter<K: Printable>(
 
 /// What writing the letter gives, which was read from these bytes: compared at run time, and proved to be the same.
 fn written_again<K: Kind>(letter: &Letter<K>, bytes: &[u8]) -> &'static str
-    requires { letter_bytes meaning letter.now ≡ bytes.now }
+    requires { letter_bytes K.meaning letter.now ≡ bytes.now }
     ensures { result.now ≡ codes "the same 32 bytes" }
 {
     if gives(letter, bytes) {
@@ -72,7 +72,7 @@ fn written_again<K: Kind>(letter: &Letter<K>, bytes: &[u8]) -> &'static str
 
 /// The type, the group and who speaks of whom.
 fn parties<K: Printable>(heap: Global, letter: &Letter<K>) -> Result<String, AllocError>
-    ensures { IfOk result (λ s. string_bytes s ≡ parties_text K.Kind.meaning shown letter.now) }
+    ensures { IfOk result (λ s. string_bytes s ≡ parties_text K.Kind.meaning K.shown letter.now) }
 {
     let phase = letter.content.phase.word();
     let size = letter.size;
@@ -83,7 +83,7 @@ fn parties<K: Printable>(heap: Global, letter: &Letter<K>) -> Result<String, All
 
 /// What the sender holds.
 fn state<K: Printable>(heap: Global, letter: &Letter<K>) -> Result<String, AllocError>
-    ensures { IfOk result (λ s. string_bytes s ≡ state_text K.Kind.meaning shown letter.now) }
+    ensures { IfOk result (λ s. string_bytes s ≡ state_text K.Kind.meaning K.shown letter.now) }
 {
     let approved = yes_no(letter.content.approved);
     let width = K::width();

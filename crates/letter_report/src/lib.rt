@@ -28,7 +28,7 @@ pub(crate) fn refusal_text(heap: Global, fault: LetterFault) -> Result<String, A
 
 /// Whether writing the letter gives these bytes.
 pub(crate) fn gives<K: Kind>(letter: &Letter<K>, bytes: &[u8]) -> bool
-    ensures { Decides result (letter_bytes meaning letter.now ≡ bytes.now) }
+    ensures { Decides result (letter_bytes K.meaning letter.now ≡ bytes.now) }
 {
     let written = letter.write();
     &written[..] == bytes

@@ -23,7 +23,7 @@ pub fn brief(heap: Global, bytes: &[u8]) -> Result<String, AllocError>
 
 /// One line on the bytes as a letter of this kind.
 fn brief_as<K: Printable>(heap: Global, bytes: &[u8]) -> Result<String, AllocError>
-    ensures { IfOk result (λ s. string_bytes s ≡ brief_as K.Kind.meaning shown bytes.now) }
+    ensures { IfOk result (λ s. string_bytes s ≡ brief_as K.Kind.meaning K.shown bytes.now) }
 {
     match Letter::<K>::read(bytes) {
         Ok(letter) => brief_letter(heap, &letter, bytes),
@@ -38,7 +38,7 @@ fn brief_letter<K: Printable>(
     bytes: &[u8],
 ) -> Result<String, AllocError>
     requires { letter_bytes K.Kind.meaning letter.now ≡ bytes.now }
-    ensures { IfOk result (λ s. string_bytes s ≡ brief_of K.Kind.meaning shown (Ok letter.now)) }
+    ensures { IfOk result (λ s. string_bytes s ≡ brief_of K.Kind.meaning K.shown (Ok letter.now)) }
 {
     let speakers = parties(heap, letter)?;
     let holds = state(heap, letter)?;
@@ -52,7 +52,7 @@ fn brief_letter<K: Printable>(
 
 /// The type, the group and who speaks of whom.
 fn parties<K: Printable>(heap: Global, letter: &Letter<K>) -> Result<String, AllocError>
-    ensures { IfOk result (λ s. string_bytes s ≡ parties_brief K.Kind.meaning shown letter.now) }
+    ensures { IfOk result (λ s. string_bytes s ≡ parties_brief K.Kind.meaning K.shown letter.now) }
 {
     let phase = letter.content.phase.word();
     let size = letter.size;
@@ -63,7 +63,7 @@ fn parties<K: Printable>(heap: Global, letter: &Letter<K>) -> Result<String, All
 
 /// What the sender holds.
 fn state<K: Printable>(heap: Global, letter: &Letter<K>) -> Result<String, AllocError>
-    ensures { IfOk result (λ s. string_bytes s ≡ state_brief K.Kind.meaning shown letter.now) }
+    ensures { IfOk result (λ s. string_bytes s ≡ state_brief K.Kind.meaning K.shown letter.now) }
 {
     let approved = u8::from(letter.content.approved);
     let width = K::width();

@@ -11,36 +11,36 @@ pub trait Kind: Copy {
 
     /// How many bytes of the field a value takes; the others are zero.
     fn width() -> u8
-        ensures { result ≡ Meaning.wide };
+        ensures { result ≡ meaning.wide };
 
     /// The field of a value.
     fn pack(&self) -> [u8; 16]
-        ensures { result ≡ Meaning.packed self.now };
+        ensures { result ≡ meaning.packed self.now };
 
     /// The value that packs to the field. Refused as unreadable exactly when there is none.
     fn unpack(field: &[u8; 16]) -> Result<Self, OrderFault>
-        ensures { result ≡ unpacking Meaning field.now };
+        ensures { result ≡ unpacking meaning field.now };
 
     /// Whether this value ranks at least as high as the other.
     fn ranks_at_least(&self, other: &Self) -> bool
-        ensures { result ≡ Meaning.ranks self.now other.now };
+        ensures { result ≡ meaning.ranks self.now other.now };
 
     // What each kind must show.
-    ghost lawful: { Lawful Meaning };
+    ghost lawful: { Lawful meaning };
 }
 
 /// How many bytes of the field a value takes. That the kind shows its laws stands here too.
 pub fn width_of<K: Kind>() -> u8
-    ensures value { result ≡ Meaning.wide }
-    ensures laws { Lawful Meaning }
+    ensures value { result ≡ K.meaning.wide }
+    ensures laws { Lawful K.meaning }
 {
     K::width()
 }
 
 /// The value that packs to the field. Refused as unreadable, at a place in the field, exactly when no value does.
 pub fn unpack<K: Kind>(field: &[u8; 16]) -> Result<K, OrderFault>
-    ensures value { result ≡ unpacking Meaning field.now }
-    ensures exact { MatchResult result (λ v. Meaning.packed v ≡ field.now) (λ e. (e.place < 16) × ((v : K) → Meaning.packed v ≢ field.now)) }
+    ensures value { result ≡ unpacking K.meaning field.now }
+    ensures exact { MatchResult result (λ v. K.meaning.packed v ≡ field.now) (λ e. (e.place < 16) × ((v : K) → K.meaning.packed v ≢ field.now)) }
 {
     K::unpack(field)
 }

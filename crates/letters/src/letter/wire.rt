@@ -33,8 +33,8 @@ impl<K: Kind> Letter<K> {
     /// The letter that is written as these bytes. Refused as garbled at place 32 for another length, else at the
     /// first byte of the first wrong field; then as unreadable where the estimate is not a value of the kind.
     pub fn read(bytes: &[u8]) -> Result<Letter<K>, LetterFault>
-        ensures value { result ≡ reading meaning bytes.now }
-        ensures exact { ReadExactly meaning bytes.now result }
+        ensures value { result ≡ reading K.meaning bytes.now }
+        ensures exact { ReadExactly K.meaning bytes.now result }
     {
         let Some(whole) = read_whole(bytes) else {
             return wrong_length(bytes);
@@ -44,8 +44,8 @@ impl<K: Kind> Letter<K> {
 
     /// The bytes of the letter. Reading them gives the letter again.
     pub fn write(&self) -> [u8; 32]
-        ensures value { result ≡ letter_bytes meaning self.now }
-        ensures back { reading meaning result ≡ Ok self.now }
+        ensures value { result ≡ letter_bytes K.meaning self.now }
+        ensures back { reading K.meaning result ≡ Ok self.now }
     {
         let head = head_for(self.size, self.sender, self.round, self.content);
         with_estimate(&write_head(head, K::width()), self)
@@ -145,8 +145,8 @@ fn garbled<T>(place: usize) -> Result<T, LetterFault>
 /// The refusal of bytes that are not 32.
 fn wrong_length<K: Kind>(bytes: &[u8]) -> Result<Letter<K>, LetterFault>
     requires { length bytes.now ≢ 32 }
-    ensures value { result ≡ reading meaning bytes.now }
-    ensures exact { ReadExactly meaning bytes.now result }
+    ensures value { result ≡ reading K.meaning bytes.now }
+    ensures exact { ReadExactly K.meaning bytes.now result }
 {
     garbled(32)
 }
@@ -163,8 +163,8 @@ fn read_whole(bytes: &[u8]) -> Option<[u8; 32]>
 
 /// The letter in 32 bytes.
 fn read_letter<K: Kind>(bytes: &[u8; 32]) -> Result<Letter<K>, LetterFault>
-    ensures value { result ≡ reading meaning bytes.now }
-    ensures exact { ReadExactly meaning bytes.now result }
+    ensures value { result ≡ reading K.meaning bytes.now }
+    ensures exact { ReadExactly K.meaning bytes.now result }
 {
     let head = read_head(bytes, K::width())?;
     let estimate = K::unpack(&estimate_field(bytes))?;
@@ -309,9 +309,9 @@ fn is_on_time(phase: Phase, round: u32, timestamp: u32) -> bool
 
 /// The bytes of a letter, of which these are the first 16.
 fn with_estimate<K: Kind>(head: &[u8; 16], letter: &Letter<K>) -> [u8; 32]
-    requires { head.now ≡ head_bytes meaning.wide (head_of letter.now) [] }
-    ensures value { result ≡ letter_bytes meaning letter.now }
-    ensures back { reading meaning result ≡ Ok letter.now }
+    requires { head.now ≡ head_bytes K.meaning.wide (head_of letter.now) [] }
+    ensures value { result ≡ letter_bytes K.meaning letter.now }
+    ensures back { reading K.meaning result ≡ Ok letter.now }
 {
     join(head, &letter.content.estimate.pack())
 }

@@ -8,6 +8,6 @@ returns g c =
     let rule = c.args.rule.now in
     let terms = terms_of g.K.Kind.meaning (g.R.VotingRule.group rule) (g.R.VotingRule.accepted rule) in
     record {
-      value = c.owes-laws.ensures.value;
-      promises = λ owed. promises terms (record { kind = g.met.K.Kind.lawful; rule = c.owes-laws.ensures.laws owed });
+      value = c.owes_laws.ensures.value;
+      promises = λ owed. promises terms (record { kind = g.met.K.Kind.lawful; rule = c.owes_laws.ensures.laws owed });
     }

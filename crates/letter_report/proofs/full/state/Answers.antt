@@ -3,5 +3,5 @@ use Rattle.letter_report.proofs.full.state.Goals as goal
 
 pub returns : goal.returns
 returns g c =
-    let estimate = c.in-ok-estimate.ensures in
-    rw (← c.yes-no-approved.ensures, ← c.width-width.ensures, ← estimate) (search rules)
+    let estimate = c.in_ok-estimate.ensures in
+    rw (← c.yes_no-approved.ensures, ← c.width-width.ensures, ← estimate) (search rules)

@@ -11,4 +11,4 @@ returns-in-Some g c = search rules
 
 pub returns-in-None : goal.returns-in-None
 unfolding making
-returns-in-None g c = ap (λ o. ok_or o (Garbled (unwrap_or (rule_broken c.args.head) 0))) c.letter-with.ensures
+returns-in-None g c = ap (λ o. ok_or o (Garbled (unwrap_or (rule_broken c.args.head) 0))) c.letter_with.ensures

@@ -2,9 +2,9 @@ use Rattle.std.proofs.Common.{refl, rules}
 use Rattle.orders.specs.LampOrdersLemmas.{field_fits, order_unpacks}
 use Rattle.orders.proofs.order.packing.order_in.Goals as goal
 
-pub invariant-of-result-2 : goal.invariant-of-result-2
-invariant-of-result-2 c =
-    (field_fits c.args.field.now c.requires c.period-in.result c.of.result c.period-in.ensures c.of.ensures, tt)
+pub invariant_of-result-2 : goal.invariant_of-result-2
+invariant_of-result-2 c =
+    record { ok = field_fits c.args.field.now c.requires c.period_in.result c.of.result c.period_in.ensures c.of.ensures }
 
 pub returns : goal.returns
 returns c =

@@ -5,9 +5,9 @@ use Rattle.voting.specs.Rules.{light}
 use Rattle.voting.proofs.Turns.{light_turn}
 use Rattle.voting.proofs.weights.ruling.light.Goals as goal
 
-pub returns-then-not-is-light : goal.returns-then-not-is-light
-returns-then-not-is-light c =
-    light_turn c.args.row.now c.loop-weight.weight-index c.loop-weight-test.true false c.if-not-is-light.ensures c.loop-weight.invariant
+pub returns-then-not-is_light : goal.returns-then-not-is_light
+returns-then-not-is_light c =
+    light_turn c.args.row.now c.loop-weight.weight-index c.loop-weight-test.true false c.if-not-is_light.ensures c.loop-weight.invariant
 
 pub loop-weight-preserved : goal.loop-weight-preserved
 loop-weight-preserved c =

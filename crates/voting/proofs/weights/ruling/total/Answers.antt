@@ -8,7 +8,7 @@ use Rattle.voting.proofs.weights.ruling.total.Goals as goal
 pub loop-weight-preserved : goal.loop-weight-preserved
 loop-weight-preserved c =
     let turn = total_turn c.args.row.now c.loop-weight.weight-index c.loop-weight-test.true in
-    let small = c.ok.row c.loop-weight.weight-index in
+    let small = c.type_inv.row c.loop-weight.weight-index in
     (omega arith, omega arith)
 
 pub returns : goal.returns
