@@ -6,7 +6,7 @@ use std::test::Fail;
 #[test]
 fn lamp_numbers(rt: HostRuntime) -> Result<(), Fail> {
     for (number, text) in [(1, "1"), (7, "7"), (12, "12")] {
-        assert_eq!(rt; LampNumber::new(number)?.text(rt.alloc())?, text);
+        assert_eq!(rt; LampNumber::new(number)?.text(rt.alloc())?.as_str(), text);
     }
     Ok(())
 }
@@ -24,7 +24,7 @@ const ORDERS: [(u8, u8, Character, &str); 4] = [
 fn lamp_orders(rt: HostRuntime) -> Result<(), Fail> {
     for (priority, number, character, text) in ORDERS {
         let order = LampOrder::new(priority, LampNumber::new(number)?, character)?;
-        assert_eq!(rt; order.text(rt.alloc())?, text);
+        assert_eq!(rt; order.text(rt.alloc())?.as_str(), text);
     }
     Ok(())
 }
