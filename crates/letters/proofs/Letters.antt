@@ -2,7 +2,6 @@
 use Rattle.std.proofs.Common.{◌≡◌, ℕ, ◌<◌, true, T, List, length, get_or, drop, Some, None, Ok, Err, Option, Result, sym, refl, ap, ◌∙◌, subst, arith}
 use Rattle.std.proofs.lemmas.Bool.{eq-eqb, ne_eqb}
 use Rattle.std.specs.Option.{ok_or}
-use Rattle.refusals.specs.Choice.{exact}
 use Rattle.orders.specs.Fault.{unreadable_at}
 use Rattle.orders.specs.Kinds.{Meaning, Lawful, unpacking}
 use Rattle.orders.specs.declared.fault.OrderFault.{OrderFault}
