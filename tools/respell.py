@@ -90,12 +90,20 @@ def files(root):
 def main(words):
     root = pathlib.Path(words[0]) if words else HERE.parent
     table = rows()
-    for path in files(root):
-        if path.suffix in TURNS and "out" not in path.parts and not path.name.startswith("PORT"):
-            old = path.read_text(encoding="utf-8")
-            new = TURNS[path.suffix](old, table)
-            if new != old:
-                path.write_text(new, encoding="utf-8")
+    texts = {
+        path: path.read_text(encoding="utf-8")
+        for path in files(root)
+        if path.suffix in TURNS and "out" not in path.parts and not path.name.startswith("PORT")
+    }
+    # One old name is a new one too, so a second run would turn what the first has made.
+    old = set(table) - set(table.values())
+    specs = " ".join(text for path, text in texts.items() if path.parent.name == "specs")
+    if old.isdisjoint(NAME.findall(specs)):
+        sys.exit("respell: no definition has an old name; nothing is written")
+    for path, text in texts.items():
+        new = TURNS[path.suffix](text, table)
+        if new != text:
+            path.write_text(new, encoding="utf-8")
 
 
 if __name__ == "__main__":

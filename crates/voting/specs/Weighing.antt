@@ -1,6 +1,6 @@
 -- A rule by weights keeps the four laws, whatever the row, if not all weights are zero.
-use Rattle.std.specs.Prelude.{◌≡◌, ℕ, suc, ◌+◌, ◌*◌, ◌^◌, ◌<◌, ◌≤◌, Bool, true, false, cond, ◌&&◌, T, ◌⊎◌, List, [], ◌∷◌, length, nat_lt, refl}
-use Rattle.std.proofs.Common.{ap, inl, inr, ⊎_elim, arith, ltb→lt}
+use Rattle.std.specs.Prelude.{◌≡◌, ℕ, suc, ◌+◌, ◌*◌, ◌^◌, ◌<◌, ◌≤◌, Bool, true, false, cond, ◌&&◌, T, ◌⊎◌, List, [], ◌∷◌, length, take, nat_le, nat_lt, refl}
+use Rattle.std.proofs.Common.{ap, inl, inr, ⊎_elim, arith, leb→le, ltb→lt, length-take-le}
 use Rattle.std.proofs.lemmas.Bool.{and_parts, and_from, both_ways, ltb-true, lt-ltb}
 use Rattle.voting.specs.Sets.{has, adding, whole, within}
 use Rattle.voting.specs.Voting.{Lawful}
@@ -83,3 +83,10 @@ fair_some row can = ltb→lt 0 (total row) (second (light row) (nat_lt 0 (total 
   second : (x y : Bool) → T (x && y) → T y
   second true y both = both
   second false y both = absurd both
+
+-- a rule by the first weights of a row that has as many keeps the four laws, if they can vote
+pub first_lawful : (n : ℕ) (weights : List ℕ) → T (nat_le n (length weights)) → T (fair (take n weights))
+    → Lawful n (outweighs (take n weights))
+first_lawful n weights room can =
+    let enough : n ≤ length weights = leb→le n (length weights) room in
+    rw length-take-le at (outweighs_lawful (take n weights) (fair_some (take n weights) can))

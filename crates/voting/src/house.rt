@@ -50,6 +50,7 @@ impl VotingRule for HouseTable {
 
     ghost accepted = { λ _. house };
 
+    // It keeps the four laws, since it was tested at every set.
     ghost lawful = { λ rule owed. house_lawful };
 
     fn size(&self) -> u8 {

@@ -25,6 +25,7 @@ impl VotingRule for Majority {
 
     ghost accepted = { λ m. majority m.size };
 
+    // It keeps the four laws, since it is a rule by weights of all ones.
     ghost lawful = { λ m owed. majority_lawful m.size (sized_some m.size owed) };
 
     fn size(&self) -> u8 {

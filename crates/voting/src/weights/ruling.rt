@@ -1,11 +1,10 @@
 //! How a rule by weights is made, and which sets it accepts.
 ghost use Rattle.std.specs.Prelude.{◌≡◌, ◌*◌, ◌≤◌, length, take, if◌then◌else◌, nat_le};
-ghost use Rattle.std.proofs.Common.{leb→le, length-take-le};
 ghost use Rattle.voting.specs.Makes.{padded, ballot_of};
 ghost use Rattle.voting.specs.Rules.{total, weigh_from, outweighs, heaviest, light, fair};
 ghost use Rattle.voting.specs.Sets.{has};
 ghost use Rattle.voting.specs.Voting.{limit};
-ghost use Rattle.voting.specs.Weighing.{outweighs_lawful, fair_some};
+ghost use Rattle.voting.specs.Weighing.{first_lawful};
 
 use super::{ROOM, Weights};
 use crate::{Members, RuleFault, VotingRule, has, is_group, within};
@@ -46,10 +45,8 @@ impl VotingRule for Weights {
 
     ghost accepted = { λ w. outweighs (take w.size w.weights) };
 
-    ghost lawful = { λ w owed.
-        let row = take w.size w.weights in
-        let enough : w.size ≤ length w.weights = leb→le w.size (length w.weights) w.room in
-        rw length-take-le at (outweighs_lawful row (fair_some row w.ballot)) };
+    // It keeps the four laws, since its row has weight.
+    ghost lawful = { λ w owed. first_lawful w.size w.weights w.room w.ballot };
 
     fn size(&self) -> u8 {
         self.size
