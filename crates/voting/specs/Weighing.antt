@@ -78,7 +78,7 @@ module _ (row : List ℕ) where
       }
 
 -- weights that can vote are not all zero
-pub fair_some : (row : List ℕ) → T (fair row) → 0 < total row
+fair_some : (row : List ℕ) → T (fair row) → 0 < total row
 fair_some row can = ltb→lt 0 (total row) (second (light row) (nat_lt 0 (total row)) can) where
   second : (x y : Bool) → T (x && y) → T y
   second true y both = both
