@@ -1,5 +1,5 @@
 -- The refusals of the unit: the number, the word and the layer of each reason.
-use Rattle.std.specs.Prelude.{ℕ, List, codes}
+use Rattle.std.specs.Prelude.{ℕ, List, ◌++◌, codes, decimal}
 use Rattle.refusals.specs.declared.Layer.{Layer}
 use Rattle.refusals.specs.declared.Layer.TheVariants.{Order, Letter, Rule, End}
 use Rattle.refusals.specs.declared.Reason.{Reason}
@@ -33,3 +33,7 @@ layer_of Ballot = Rule
 -- a refusal for a reason, at a place of what its layer reads
 abbrev pub refusal_at : Reason → ℕ → Refusal
 refusal_at why where' = record { reason = why; place = where' }
+
+-- a refusal as programs print it: its number and its place
+abbrev pub refusal_text : Refusal → List ℕ
+refusal_text r = codes "refused " ++ (decimal (number_of r.reason) ++ (codes " " ++ decimal r.place))
