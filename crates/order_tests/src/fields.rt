@@ -9,10 +9,7 @@ pub(crate) const FITS: Answer = None;
 
 /// The answer that a result stands for.
 pub(crate) fn answer<T: Drop>(res: Result<T, OrderFault>) -> Answer {
-    match res {
-        Ok(_) => FITS,
-        Err(fault) => Some(fault.place),
-    }
+    res.err().map(|fault| fault.place)
 }
 
 /// The field with another byte at a place.

@@ -1,5 +1,6 @@
 -- Flash characters: the code, count and period of each, and which of these fit together.
-use Rattle.std.specs.Prelude.{ℕ, Bool, cond, ◌&&◌, ◌==◌, nat_le}
+use Rattle.std.specs.Prelude.{ℕ, Bool, Option, None, ◌&&◌, ◌==◌, nat_le, if◌then◌else◌}
+use Rattle.refusals.specs.Choice.{wrong_at}
 use Rattle.orders.specs.declared.character.Character.{Character}
 use Rattle.orders.specs.declared.character.Character.TheVariants.{Fixed, Flashing, Isophase, GroupFlashing}
 
@@ -27,15 +28,20 @@ period_of (GroupFlashing count period) = period
 -- the character with this code, count and period, where these fit together
 abbrev pub character_of : ℕ → ℕ → ℕ → Character
 character_of code count period =
-    cond (code == 1) (Flashing period) (cond (code == 2) (Isophase period) (cond (code == 3) (GroupFlashing count period) Fixed))
+    if code == 1 then Flashing period else (if code == 2 then Isophase period else (if code == 3 then GroupFlashing count period else Fixed))
 
 -- a group has 2 to 6 flashes, and only a group has a count
 abbrev pub count_fits : ℕ → ℕ → Bool
-count_fits code count = cond (code == 3) (nat_le 2 count && nat_le count 6) (count == 0)
+count_fits code count = if code == 3 then nat_le 2 count && nat_le count 6 else count == 0
 
 -- a period takes 1 to 60 seconds, and a fixed light has none
 abbrev pub period_fits : ℕ → ℕ → Bool
-period_fits code period = cond (code == 0) (period == 0) (nat_le 10 period && nat_le period 600)
+period_fits code period = if code == 0 then period == 0 else nat_le 10 period && nat_le period 600
+
+-- the place in a field of the first of the code, count and period that is wrong
+abbrev pub character_wrong : ℕ → ℕ → ℕ → Option ℕ
+character_wrong code count period =
+    wrong_at (nat_le code 3) 2 (wrong_at (count_fits code count) 3 (wrong_at (period_fits code period) 4 None))
 
 -- the count and the period of a character are within their limits
 abbrev pub character_fits : Character → Bool

@@ -1,11 +1,12 @@
 -- The bytes of a field behind those that a value takes. Assumes nothing.
-use Rattle.std.specs.Prelude.{ℕ, ◌+◌, cond, List, [], ◌∷◌, drop, Some, None, Option, ◌==◌}
+use Rattle.std.specs.Prelude.{ℕ, ◌+◌, Bool, List, Option, drop, not, ◌==◌}
+use Rattle.std.specs.List.{position_from}
+use Rattle.std.specs.Option.{option_map}
 
--- the place of the first byte that is not zero, where the list stands at place i
-abbrev pub nonzero_at : ℕ → List ℕ → Option ℕ
-nonzero_at i [] = None
-nonzero_at i (x ∷ xs) = cond (x == 0) (nonzero_at (i + 1) xs) (Some i)
+-- a byte is not zero
+abbrev pub is_nonzero : ℕ → Bool
+is_nonzero x = not (x == 0)
 
 -- the place of the first byte of a field, from place i on, that is not zero
 abbrev pub stray : ℕ → List ℕ → Option ℕ
-stray i field = nonzero_at i (drop i field)
+stray i field = option_map (λ k. i + k) (position_from is_nonzero 0 (drop i field))

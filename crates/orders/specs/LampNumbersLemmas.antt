@@ -1,29 +1,32 @@
 -- The laws of lamp numbers.
-use Rattle.std.specs.Prelude.{◌≡◌, ℕ, zero, suc, ◌+◌, ◌<◌, ◌≤◌, true, T, List, [], ◌∷◌, length, drop, replicate, IfSome, Some, None, Ok, Err, Option, nat_le, slice_index, refl}
-use Rattle.std.proofs.Common.{sym, ap, ◌∙◌, inl, inr, ⊎_elim, arith, length-drop}
-use Rattle.std.proofs.lemmas.Bool.{leb-true, le-leb, and_parts, cases_lt}
+use Rattle.std.specs.Prelude.{◌≡◌, ℕ, zero, suc, ◌<◌, ◌≤◌, Bool, true, false, IsTrue, List, [], ◌∷◌, length, Some, None, Ok, Err, Option, Result, slice_index, refl}
+use Rattle.std.proofs.Common.{sym, ap, arith}
+use Rattle.std.proofs.lemmas.Bool.Decides.{nat_tests}
 use Rattle.std.specs.Option.{ok_or, unwrap_or}
-use Rattle.orders.specs.Fault.{unreadable_at}
+use Rattle.orders.specs.Fault.{unreadable_at, unless_wrong}
 use Rattle.orders.specs.Fields.{stray}
 use Rattle.orders.specs.Kinds.{Lawful, unpacking}
 use Rattle.orders.specs.LampNumbers.{lamp_of, pack_lamp, lamp_wrong, lamp_meaning}
 use Rattle.orders.specs.Lamps.{is_lamp}
 use Rattle.orders.specs.declared.fault.OrderFault.{OrderFault}
 use Rattle.orders.specs.declared.number.LampNumber.{LampNumber}
-use Rattle.refusals.proofs.Choices.{is_so, if_so-made, exact_kept, exact_bytes, wrong_at-none}
-use Rattle.orders.specs.FieldsLemmas.{zero_at, zeros_none, none_zeros, wrong_at-below, stray-below}
-use Rattle.orders.specs.Unpacking.{unpacks, refuses_at}
+use Rattle.refusals.specs.Choice.{if_so}
+use Rattle.refusals.proofs.Choices.{if_so-made, exact_kept, exact_bytes}
+use Rattle.orders.specs.FieldsLemmas.{zero_at, zeros_behind, stray-below}
+use Rattle.orders.specs.Unpacking.{then_zeros, unpacks, refuses_at}
 
-pub lamp_made : (n : ℕ) (h : T (is_lamp n)) (f : OrderFault) → Ok (record { number = n; ok = h }) ≡ ok_or (lamp_of n) f
-lamp_made n h f = sym (ap (λ o. ok_or o f) (if_so-made (is_lamp n) (λ t. record { number = n; ok = t }) h))
+-- a lamp is made of its number, by whatever proof that it is one
+lamp_kept : (n : ℕ) (h : IsTrue (is_lamp n)) → lamp_of n ≡ Some (record { number = n; ok = h })
+lamp_kept n h = if_so-made (is_lamp n) (λ t. record { number = n; ok = t }) h
+
+pub lamp_made : (n : ℕ) (h : IsTrue (is_lamp n)) (f : OrderFault) → Ok (record { number = n; ok = h }) ≡ ok_or (lamp_of n) f
+lamp_made n h f = sym (ap (λ o. ok_or o f) (lamp_kept n h))
 
 pub lamp_of-number : (v : LampNumber) → lamp_of v.number ≡ Some v
-lamp_of-number v = if_so-made (is_lamp v.number) (λ t. record { number = v.number; ok = t }) v.ok
+lamp_of-number v = lamp_kept v.number v.ok
 
 pub lamp_limits : (v : LampNumber) → (1 ≤ v.number) × (v.number ≤ 12)
-lamp_limits v =
-    let both = and_parts (nat_le 1 v.number) (nat_le v.number 12) (is_so (is_lamp v.number) v.ok) in
-    (leb-true 1 v.number both.0, leb-true v.number 12 both.1)
+lamp_limits v = let fits = v.ok in (grind (arith, nat_tests), grind (arith, nat_tests))
 
 same_number : (x y : LampNumber) → x.number ≡ y.number → x ≡ y
 same_number x y e =
@@ -41,12 +44,10 @@ packed_zeros v zero h = absurd (omega arith)
 packed_zeros v (suc i) h = zero_at 15 i
 
 pub packed_right : (v : LampNumber) → lamp_wrong (pack_lamp v) ≡ None
-packed_right v = let good = is_so (is_lamp v.number) v.ok in rw good (zeros_none 1 15)
+packed_right v = let good = v.ok in rw good refl
 
 place_below : (field : List ℕ) → length field ≡ 16 → unwrap_or (lamp_wrong field) 0 < 16
-place_below field long =
-    let rest : 1 + length (drop 1 field) ≤ 16 = simp length-drop (omega arith) in
-    wrong_at-below (is_lamp (slice_index field 0)) 0 (stray 1 field) (omega arith) (stray-below 1 16 (drop 1 field) rest (omega arith))
+place_below field long = let rest = stray-below 1 16 field long (omega arith) in grind arith
 
 pub lamp_lawful : Lawful lamp_meaning
 lamp_lawful = record {
@@ -58,29 +59,27 @@ lamp_lawful = record {
   back = λ v. exact_kept pack_lamp (pack_lamp v) (lamp_of v.number) v (lamp_of-number v) refl;
   exactly = λ field v e. exact_bytes pack_lamp field (lamp_of (slice_index field 0)) v e;
   placed = place_below;
-  total = λ x y. ⊎_elim (λ h. inr (le-leb x.number y.number (omega arith))) (λ h. inl (le-leb y.number x.number h)) (cases_lt x.number y.number);
-  trans = λ x y z p q. let a = leb-true y.number x.number p in let b = leb-true z.number y.number q in le-leb z.number x.number (omega arith);
-  antisym = λ x y p q. let a = leb-true y.number x.number p in let b = leb-true x.number y.number q in same_number x y (omega arith);
+  total = λ x y. grind (arith, nat_tests);
+  trans = λ x y z p q. grind (arith, nat_tests);
+  antisym = λ x y p q. same_number x y (grind (arith, nat_tests));
 }
 
--- a field with a lamp's number and no stray byte is that lamp's
-field_of : (field : List ℕ) → length field ≡ 16 → stray 1 field ≡ None → slice_index field 0 ∷ replicate 15 0 ≡ field
-field_of [] long e = absurd (omega arith)
-field_of (x ∷ xs) long e =
-    let clean = none_zeros 1 xs e in
-    let many : length xs ≡ 15 = omega arith in
-    let tail : xs ≡ replicate 15 0 = clean ∙ ap (λ n. replicate n 0) many in
-    cc
+-- what an answer is that is made only where a test passes, by whether it does
+by_test : {V : Type 0} (u : Result V OrderFault) (later : Option ℕ) (b : Bool) (make : IsTrue b → V) → ((h : IsTrue b) → u ≡ unless_wrong later (Ok (make h))) → (b ≡ false → u ≡ Err (unreadable_at 0)) → u ≡ then_zeros (ok_or (if_so b make) (unreadable_at 0)) later
+by_test u later true make passed failed = passed refl
+by_test u later false make passed failed = failed refl
 
--- what unpacking answers of a field, by whether a place is wrong
-pub lamp_refuses : (field : List ℕ) (o : Option ℕ) → o ≡ lamp_wrong field → IfSome o (λ p. Err (unreadable_at p) ≡ unpacking lamp_meaning field)
-lamp_refuses field None e = tt
-lamp_refuses field (Some p) e = sym (refuses_at lamp_meaning lamp_lawful lamp_wrong packed_right (λ _. refl) field p (sym e))
+-- a field by its first byte
+module _ (n : ℕ) (rest : List ℕ) where
+  refused : (p : ℕ) → lamp_wrong (n ∷ rest) ≡ Some p → unpacking lamp_meaning (n ∷ rest) ≡ Err (unreadable_at p)
+  refused = refuses_at lamp_meaning lamp_lawful lamp_wrong packed_right (λ _. refl) (n ∷ rest)
 
-module _ (field : List ℕ) (right : lamp_wrong field ≡ None) where
-  parts : (is_lamp (slice_index field 0) ≡ true) × (stray 1 field ≡ None)
-  parts = wrong_at-none (is_lamp (slice_index field 0)) 0 (stray 1 field) right
+  held : length (n ∷ rest) ≡ 16 → (later : Option ℕ) → stray 1 (n ∷ rest) ≡ later → (h : IsTrue (is_lamp n)) → unpacking lamp_meaning (n ∷ rest) ≡ unless_wrong later (Ok (record { number = n; ok = h }))
+  held long None clean h = let zeros = zeros_behind 1 15 (n ∷ rest) long clean in unpacks lamp_meaning lamp_lawful (n ∷ rest) _ cc
+  held long (Some p) wrong h = refused p (rw h wrong)
 
-  pub lamp_unpacks : length field ≡ 16 → (v : LampNumber) → v.number ≡ slice_index field 0 → Ok v ≡ unpacking lamp_meaning field
-  lamp_unpacks long v number =
-      sym (unpacks lamp_meaning lamp_lawful field v (ap (λ n. n ∷ replicate 15 0) number ∙ field_of field long parts.1))
+-- unpacking reads the lamp, and then the zeros
+pub lamp_unpacking : (field : List ℕ) → length field ≡ 16 → unpacking lamp_meaning field ≡ then_zeros (ok_or (lamp_of (slice_index field 0)) (unreadable_at 0)) (stray 1 field)
+lamp_unpacking [] long = absurd (omega arith)
+lamp_unpacking (n ∷ rest) long =
+    by_test _ _ (is_lamp n) (λ h. record { number = n; ok = h }) (held n rest long _ refl) (λ bad. refused n rest 0 (rw bad refl))

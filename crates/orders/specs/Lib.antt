@@ -12,3 +12,4 @@ pub mod Unpacking
 pub mod LampOrdersLemmas
 pub mod CharactersLemmas
 pub mod Ranking
+pub mod Texts

@@ -1,9 +1,15 @@
 -- What the laws of a kind say of unpacking: the value that packs to the field, refused where there is none.
-use Rattle.std.specs.Prelude.{◌≡◌, ℕ, List, Some, None, Ok, Err, Option, ◌≢◌, refl}
-use Rattle.std.proofs.Common.{sym, ap, ◌∙◌, arith}
+use Rattle.std.specs.Prelude.{◌≡◌, ℕ, List, Some, None, Ok, Err, Option, Result, ◌≢◌, refl}
+use Rattle.std.proofs.Common.{sym, ap, ◌∙◌}
 use Rattle.std.specs.Option.{unwrap_or}
-use Rattle.orders.specs.Fault.{unreadable_at}
+use Rattle.orders.specs.Fault.{unreadable_at, unless_wrong}
+use Rattle.orders.specs.declared.fault.OrderFault.{OrderFault}
 use Rattle.orders.specs.Kinds.{Meaning, Lawful, unpacking}
+
+-- what the bytes of a value answer, unless a byte behind them is stray
+abbrev pub then_zeros : {V : Type 0} → Result V OrderFault → Option ℕ → Result V OrderFault
+then_zeros (Ok v) later = unless_wrong later (Ok v)
+then_zeros (Err e) later = Err e
 
 module _ {V : Type 0} (m : Meaning V) (laws : Lawful m) where
   pub unpacks : (field : List ℕ) (v : V) → m.packed v ≡ field → unpacking m field ≡ Ok v
@@ -20,5 +26,5 @@ module _ {V : Type 0} (m : Meaning V) (laws : Lawful m) where
   pub refuses_at : (wrong : List ℕ → Option ℕ) → ((v : V) → wrong (m.packed v) ≡ None) → ((field : List ℕ) → m.misplaced field ≡ unwrap_or (wrong field) 0) → (field : List ℕ) (p : ℕ) → wrong field ≡ Some p → unpacking m field ≡ Err (unreadable_at p)
   refuses_at wrong right place field p e =
       let at : m.misplaced field ≡ p = place field ∙ ap (λ o. unwrap_or o 0) e in
-      let never : (v : V) → m.packed v ≡ field → ⊥ = λ v w. (let r = right v in let z : ◌≡◌ {A = ℕ} 0 1 = cc in omega arith) in
+      let never : (v : V) → m.packed v ≡ field → ⊥ = λ v w. (let r = right v in absurd cc) in
       refuses field never ∙ ap (λ n. Err (unreadable_at n)) at

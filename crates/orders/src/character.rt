@@ -1,9 +1,13 @@
 //! Flash characters: how a light shows.
 ghost use Rattle.std.specs.Prelude.{◌≡◌};
-ghost use Rattle.orders.specs.Characters.{code_of, count_of, period_of, character_of};
 
-/// How a light shows. A period is in tenths of a second.
-#[derive(Clone, Copy, PartialEq, Eq, Debug)]
+use crate::fault::OrderFault;
+use refusals::ensure;
+use std::fmt;
+
+/// How a light shows. A period is in tenths of a second. Characters compare by the variant, later ones higher,
+/// then the count, then the period.
+#[derive(Clone, Copy, PartialEq, Eq, PartialOrd, Ord, Hash, Debug)]
 pub enum Character {
     /// It shines without a break.
     Fixed,
@@ -16,6 +20,10 @@ pub enum Character {
 }
 
 impl Character {
+    ghost use Rattle.std.specs.Prelude.{Ok, IsTrue, IfOk};
+    ghost use Rattle.orders.specs.Characters.{code_of, count_of, period_of, character_of, character_wrong, character_fits};
+    ghost use Rattle.orders.specs.Fault.{unless_wrong};
+
     /// The byte that stands for the character.
     pub(crate) fn code(self) -> u8
         ensures { result ≡ code_of self }
@@ -44,21 +52,56 @@ impl Character {
     {
         match self {
             Character::Fixed => 0,
-            Character::Flashing { period } => period,
-            Character::Isophase { period } => period,
-            Character::GroupFlashing { period, .. } => period,
+            Character::Flashing { period }
+            | Character::Isophase { period }
+            | Character::GroupFlashing { period, .. } => period,
         }
     }
 
-    /// The character of a code, with what else it takes.
-    pub(crate) fn of(code: u8, count: u8, period: u16) -> Character
-        ensures { result ≡ character_of code count period }
+    /// Refused at place 3 for a count outside its limits, at place 4 for a period outside them.
+    pub(crate) fn check(self) -> Result<(), OrderFault>
+        ensures { result ≡ unless_wrong (character_wrong (code_of self) (count_of self) (period_of self)) (Ok tt) }
     {
-        match code {
+        if let Character::GroupFlashing { count, .. } = self {
+            ensure((2..=6).contains(&count), OrderFault { place: 3 })?;
+        }
+        let period_fits = self == Character::Fixed || (10..=600).contains(&self.period());
+        ensure(period_fits, OrderFault { place: 4 })
+    }
+
+    /// The character of the bytes in a field. Refused at the place of the first that is wrong: 2 for the code, 3 for
+    /// the count, 4 for the period.
+    pub(crate) fn read(code: u8, count: u8, period: u16) -> Result<Character, OrderFault>
+        ensures value { result ≡ unless_wrong (character_wrong code count period) (Ok (character_of code count period)) }
+        ensures fits { IfOk result (λ c. IsTrue (character_fits c)) }
+    {
+        let character = match code {
+            0 => Character::Fixed,
             1 => Character::Flashing { period },
             2 => Character::Isophase { period },
             3 => Character::GroupFlashing { count, period },
-            _ => Character::Fixed,
+            _ => return Err(OrderFault { place: 2 }),
+        };
+        ensure(count == character.count(), OrderFault { place: 3 })?;
+        ensure(period == character.period(), OrderFault { place: 4 })?;
+        character.check()?;
+        Ok(character)
+    }
+}
+
+/// A character prints as on charts, the period in tenths of a second.
+impl fmt::Display for Character {
+    ghost use Rattle.std.specs.Prelude.{Some};
+    ghost use Rattle.orders.specs.Texts.{text_of_character};
+
+    ghost output = { λ character. Some (text_of_character character) };
+
+    fn fmt<W: fmt::Write>(&self, f: &mut fmt::Formatter<W>) -> fmt::Result {
+        match *self {
+            Character::Fixed => write!(f, "F"),
+            Character::Flashing { period } => write!(f, "Fl{period}"),
+            Character::Isophase { period } => write!(f, "Iso{period}"),
+            Character::GroupFlashing { count, period } => write!(f, "Fl({count}){period}"),
         }
     }
 }

@@ -1,6 +1,5 @@
 //! What the order layer refuses.
 ghost use Rattle.std.specs.Prelude.{◌≡◌};
-ghost use Rattle.orders.specs.Fault.{order_refusal};
 
 use refusals::{Reason, Refusal};
 
@@ -10,14 +9,16 @@ pub struct OrderFault {
     pub place: usize,
 }
 
-impl OrderFault {
-    /// The refusal that this fault comes to: unreadable, at its place.
-    pub fn refusal(self) -> Refusal
-        ensures { result ≡ order_refusal self }
-    {
+/// A fault comes to the refusal as unreadable, at its place.
+impl From<OrderFault> for Refusal {
+    ghost use Rattle.orders.specs.Fault.{order_refusal};
+
+    ghost from_gives = { λ fault refusal. refusal ≡ order_refusal fault };
+
+    fn from(fault: OrderFault) -> Refusal {
         Refusal {
             reason: Reason::Unreadable,
-            place: self.place,
+            place: fault.place,
         }
     }
 }

@@ -22,6 +22,7 @@ pub trait Kind: Copy {
         ensures { result ≡ unpacking meaning field.now };
 
     /// Whether this value ranks at least as high as the other.
+    // Not provided once for all kinds: a kind need not be `Ord`, and to ask for it would ask more of whoever writes one.
     fn ranks_at_least(&self, other: &Self) -> bool
         ensures { result ≡ meaning.ranks self.now other.now };
 
