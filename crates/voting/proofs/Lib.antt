@@ -1,3 +1,2 @@
 pub mod Quorums
-pub mod Making
-pub mod Turns
+pub mod Rows

@@ -2,7 +2,8 @@
 -- keeps a set accepted, a set and its complement are not both accepted, and the whole group is accepted.
 use Rattle.std.specs.Prelude.{◌≡◌, ℕ, zero, suc, ◌-◌, ◌/◌, ◌%◌, ◌^◌, ◌<◌, ◌≤◌, Bool, true, ◌⊎◌, ◌≢◌}
 use Rattle.std.proofs.Common.{◌∙◌, inl, inr, ⊎_elim, pow-suc, arith}
-use Rattle.std.proofs.lemmas.Bool.{cases_lt, eq-eqb}
+use Rattle.std.proofs.lemmas.Bool.{cases_lt}
+use Rattle.std.proofs.lemmas.Bool.Decides.{nat_tests}
 use Rattle.voting.specs.Sets.{adding, whole}
 use Rattle.voting.specs.Voting.{Lawful}
 use Rattle.voting.specs.Members.{Shared, refuses_strangers, half_lt, has-half, has-lowest}
@@ -26,7 +27,7 @@ later_shared : (a b : ℕ) → Shared (a / 2) (b / 2) → Shared a b
 later_shared a b (i, ina, inb) = (suc i, has-half a i ∙ ina, has-half b i ∙ inb)
 
 lowest_shared : (a b : ℕ) → 1 - b % 2 < a % 2 → Shared a b
-lowest_shared a b lt = (0, has-lowest a ∙ eq-eqb (a % 2) 1 (omega arith), has-lowest b ∙ eq-eqb (b % 2) 1 (omega arith))
+lowest_shared a b lt = grind (arith, nat_tests, has-lowest)
 
 -- of two sets that share no controller one lies under the other's complement
 shared_or_under : (n a b : ℕ) → a < 2 ^ n → b < 2 ^ n → Shared a b ⊎ Under n a (whole n - b)

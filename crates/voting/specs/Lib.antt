@@ -2,6 +2,7 @@ pub mod Sets
 pub mod Voting
 pub mod Rules
 pub mod Faults
+pub mod Rows
 pub mod Makes
 pub mod EverySet
 pub mod Members

@@ -1,5 +1,5 @@
 -- Sets of controllers, as numbers: bit i of a set stands for controller i.
-use Rattle.std.specs.Prelude.{ℕ, zero, suc, ◌+◌, ◌-◌, ◌/◌, ◌%◌, ◌^◌, Bool, cond, ◌==◌, bit_or}
+use Rattle.std.specs.Prelude.{ℕ, zero, suc, ◌+◌, ◌-◌, ◌/◌, ◌%◌, ◌^◌, Bool, if◌then◌else◌, ◌==◌, bit_or}
 
 -- whether controller i is in s: bit i is set
 abbrev pub has : ℕ → ℕ → Bool
@@ -25,4 +25,4 @@ count (suc n) s = s % 2 + count n (s / 2)
 -- the controllers below n that pass a test
 abbrev pub set_of : ℕ → (ℕ → Bool) → ℕ
 set_of zero test = 0
-set_of (suc n) test = cond (test n) (adding (set_of n test) n) (set_of n test)
+set_of (suc n) test = if test n then adding (set_of n test) n else set_of n test

@@ -1,5 +1,5 @@
 //! The house's rule, read from a table of all sets.
-ghost use Rattle.std.specs.Prelude.{◌≡◌, true, ◌==◌};
+ghost use Rattle.std.specs.Prelude.{◌≡◌, true};
 ghost use Rattle.voting.specs.Rules.{house, tells};
 ghost use Rattle.voting.specs.EverySet.{house_lawful};
 
@@ -9,39 +9,37 @@ use crate::{Members, VotingRule};
 #[derive(Clone, Copy)]
 pub struct HouseTable;
 
-/// 1 at each set that may decide, 16 sets to a line.
+// The two entries of the table, as short as its lines need them.
+const N: bool = false;
+
+const Y: bool = true;
+
+/// Which sets may decide, 16 to a line.
 #[rattlefmt::skip]
-const TABLE: [u8; 256] = [
-    0, 0, 0, 0, 0, 0, 0, 0, 0, 0, 0, 0, 0, 0, 0, 1,
-    0, 0, 0, 0, 0, 0, 0, 1, 0, 0, 0, 1, 0, 1, 0, 1,
-    0, 0, 0, 0, 0, 0, 0, 1, 0, 0, 0, 1, 0, 1, 0, 1,
-    0, 0, 0, 1, 0, 1, 0, 1, 0, 1, 0, 1, 0, 1, 1, 1,
-    0, 0, 0, 0, 0, 0, 0, 1, 0, 0, 0, 1, 0, 1, 0, 1,
-    0, 0, 0, 1, 0, 1, 0, 1, 0, 1, 0, 1, 0, 1, 1, 1,
-    0, 0, 0, 1, 0, 1, 0, 1, 0, 1, 0, 1, 0, 1, 1, 1,
-    0, 1, 0, 1, 0, 1, 1, 1, 0, 1, 1, 1, 1, 1, 1, 1,
-    0, 0, 0, 0, 0, 0, 0, 1, 0, 0, 0, 1, 0, 1, 0, 1,
-    0, 0, 0, 1, 0, 1, 0, 1, 0, 1, 0, 1, 0, 1, 1, 1,
-    0, 0, 0, 1, 0, 1, 0, 1, 0, 1, 0, 1, 0, 1, 1, 1,
-    0, 1, 0, 1, 0, 1, 1, 1, 0, 1, 1, 1, 1, 1, 1, 1,
-    0, 0, 0, 1, 0, 1, 0, 1, 0, 1, 0, 1, 0, 1, 1, 1,
-    0, 1, 0, 1, 0, 1, 1, 1, 0, 1, 1, 1, 1, 1, 1, 1,
-    0, 1, 0, 1, 0, 1, 1, 1, 0, 1, 1, 1, 1, 1, 1, 1,
-    0, 1, 1, 1, 1, 1, 1, 1, 1, 1, 1, 1, 1, 1, 1, 1,
+const TABLE: [bool; 256] = [
+    N, N, N, N, N, N, N, N, N, N, N, N, N, N, N, Y,
+    N, N, N, N, N, N, N, Y, N, N, N, Y, N, Y, N, Y,
+    N, N, N, N, N, N, N, Y, N, N, N, Y, N, Y, N, Y,
+    N, N, N, Y, N, Y, N, Y, N, Y, N, Y, N, Y, Y, Y,
+    N, N, N, N, N, N, N, Y, N, N, N, Y, N, Y, N, Y,
+    N, N, N, Y, N, Y, N, Y, N, Y, N, Y, N, Y, Y, Y,
+    N, N, N, Y, N, Y, N, Y, N, Y, N, Y, N, Y, Y, Y,
+    N, Y, N, Y, N, Y, Y, Y, N, Y, Y, Y, Y, Y, Y, Y,
+    N, N, N, N, N, N, N, Y, N, N, N, Y, N, Y, N, Y,
+    N, N, N, Y, N, Y, N, Y, N, Y, N, Y, N, Y, Y, Y,
+    N, N, N, Y, N, Y, N, Y, N, Y, N, Y, N, Y, Y, Y,
+    N, Y, N, Y, N, Y, Y, Y, N, Y, Y, Y, Y, Y, Y, Y,
+    N, N, N, Y, N, Y, N, Y, N, Y, N, Y, N, Y, Y, Y,
+    N, Y, N, Y, N, Y, Y, Y, N, Y, Y, Y, Y, Y, Y, Y,
+    N, Y, N, Y, N, Y, Y, Y, N, Y, Y, Y, Y, Y, Y, Y,
+    N, Y, Y, Y, Y, Y, Y, Y, Y, Y, Y, Y, Y, Y, Y, Y,
 ];
 
 /// The table has the house's answer at each set.
-fn table() -> &'static [u8; 256]
+fn table() -> &'static [bool; 256]
     ensures { tells house 0 result.now ≡ true }
 {
     &TABLE
-}
-
-/// What the table has at a set.
-fn entry(set: Members) -> u8
-    ensures { (result == 1) ≡ house set }
-{
-    table()[usize::from(set)]
 }
 
 /// Accepts what the table says.
@@ -57,7 +55,8 @@ impl VotingRule for HouseTable {
         8
     }
 
+    #[tactic(auto, using(crate::specs::EverySet::told))]
     fn accepts(&self, set: Members) -> bool {
-        entry(set) == 1
+        table()[usize::from(set)]
     }
 }

@@ -2,15 +2,15 @@
 //! such rule owes.
 #![tactic(auto)]
 
-ghost use Rattle.std.specs.Prelude.{◌≡◌, ℕ, ◌<◌, ◌≤◌, Bool, true};
-ghost use Rattle.voting.specs.Faults.{rule_refusal};
-ghost use Rattle.voting.specs.Sets.{has, within, count};
-ghost use Rattle.voting.specs.Voting.{limit, sized, Lawful};
+ghost use Rattle.std.specs.Prelude.{◌≡◌, ℕ, ◌/◌, ◌^◌, Bool, true};
+ghost use Rattle.voting.specs.Sets.{has, within};
+ghost use Rattle.voting.specs.Voting.{sized, Lawful};
 
 use refusals::{Reason, Refusal};
 
 mod house;
 mod majority;
+mod row;
 mod weights;
 
 pub use house::HouseTable;
@@ -19,9 +19,6 @@ pub use weights::Weights;
 
 /// A set of controllers, one bit each: bit i stands for controller i.
 pub type Members = u8;
-
-/// Wide enough to shift a set by all of its bits.
-type Wide = u16;
 
 /// The most controllers that a group has, and the number of bits of a set.
 pub const LIMIT: u8 = 8;
@@ -56,12 +53,15 @@ pub enum RuleFault {
     Ballot,
 }
 
-impl RuleFault {
-    /// The refusal that stands for the fault. Its place is 0, since no byte is at fault.
-    pub fn refusal(self) -> Refusal
-        ensures { result ≡ rule_refusal self }
-    {
-        let reason = match self {
+/// A fault comes to its refusal at place 0, since no byte is at fault.
+impl From<RuleFault> for Refusal {
+    ghost use Rattle.std.specs.Prelude.{◌≡◌};
+    ghost use Rattle.voting.specs.Faults.{rule_refusal};
+
+    ghost from_gives = { λ fault refusal. refusal ≡ rule_refusal fault };
+
+    fn from(fault: RuleFault) -> Refusal {
+        let reason = match fault {
             RuleFault::Size => Reason::Size,
             RuleFault::Ballot => Reason::Ballot,
         };
@@ -74,65 +74,36 @@ pub fn owes_laws<R: VotingRule>(rule: &R) -> bool
     ensures value { result ≡ sized (R.group rule.now) }
     ensures laws { result ≡ true → Lawful (R.group rule.now) (R.accepted rule.now) }
 {
-    has_group(rule)
+    is_group(usize::from(rule.size()))
 }
 
 /// Whether a controller is in the set: no number from the set's width on is.
 pub fn has(set: Members, member: u8) -> bool
     ensures { result ≡ has set member }
 {
-    if member < LIMIT {
-        bit(set, member)
-    } else {
-        beyond(set, member)
-    }
+    members_from(set, member) % 2 == 1
 }
 
 /// Whether a group may have this many controllers.
 pub fn is_group(size: usize) -> bool
     ensures { result ≡ sized size }
 {
-    LEAST <= size && size <= usize::from(LIMIT)
-}
-
-/// Whether the size that the rule answers is one that a group may have.
-fn has_group<R: VotingRule>(rule: &R) -> bool
-    ensures { result ≡ sized (R.group rule.now) }
-{
-    is_group(usize::from(rule.size()))
-}
-
-/// One bit of the set.
-fn bit(set: Members, member: u8) -> bool
-    requires { member < limit }
-    ensures { result ≡ has set member }
-{
-    (set >> member) % 2 == 1
-}
-
-/// A set has no bit from its width on.
-fn beyond(set: Members, member: u8) -> bool
-    requires { limit ≤ member }
-    ensures { result ≡ has set member }
-{
-    false
+    (LEAST..=usize::from(LIMIT)).contains(&size)
 }
 
 /// Whether the set has controllers below `size` only.
-fn within(set: Members, size: usize) -> bool
-    requires { size ≤ limit }
+fn within(set: Members, size: u8) -> bool
     ensures { result ≡ within size set }
 {
-    Wide::from(set) >> size == 0
+    members_from(set, size) == 0
 }
 
-/// How many of the controllers below `size` are in a set that has no others.
-fn count(set: Members, size: usize) -> u32
-    requires { within size set ≡ true }
-    ensures value { result ≡ count size set }
-    ensures bound { result ≤ limit }
+/// The members from `first` on, each numbered `first` lower.
+#[tactic(auto, using(crate::specs::Members::none_past))]
+fn members_from(set: Members, first: u8) -> Members
+    ensures { result ≡ set / 2 ^ first }
 {
-    set.count_ones()
+    set.unbounded_shr(u32::from(first))
 }
 
 #[cfg(test)]
