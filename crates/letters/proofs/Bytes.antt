@@ -1,50 +1,30 @@
 -- Each field of a letter and its bytes determine each other, and two halves of 16 bytes fill a row of 32.
-use Rattle.std.proofs.Common.{◌≡◌, ℕ, zero, suc, ◌+◌, ◌*◌, ◌/◌, ◌%◌, ◌<◌, Bool, true, false, eqb, leb, List, [], ◌∷◌, ◌++◌, length, take, drop, sym, refl, ap, ◌∙◌, mod-eq_of_lt, div-add-mod', arith, length-append}
-use native.Mathlib.Nat.{div-div-eq-div-mul}
+use Rattle.std.proofs.Common.{◌≡◌, ℕ, ◌+◌, ◌*◌, ◌/◌, ◌%◌, ◌<◌, Bool, true, nat_le, ◌==◌, Fits, w8, List, [], ◌∷◌, ◌++◌, length, take, drop, sym, refl, ◌∙◌, arith, length-append}
 use borrow.Rule.Slice.PartMut.{put_mid}
-use Rattle.std.proofs.lemmas.Nat.{div_below}
 use Rattle.std.proofs.lemmas.Slice.{put_mid-paste}
 use Rattle.std.proofs.lemmas.List.{append-nil, take_at, take_all, drop_all}
-use Rattle.std.proofs.lemmas.Bool.{leb-true, and_parts}
+use Rattle.std.proofs.lemmas.Bool.Decides.{nat_tests}
 use Rattle.letters.specs.Phases.{phase_byte, is_phase, phase_at}
 use Rattle.letters.specs.Heads.{flag_byte, four_bytes}
 use Rattle.letters.specs.declared.phase.Phase.{Phase}
-use Rattle.letters.specs.declared.phase.Phase.TheVariants.{Prepare, Commit, Decide}
 
 pub phase_back : (p : Phase) → phase_at (phase_byte p) ≡ p
-phase_back Prepare = refl
-phase_back Commit = refl
-phase_back Decide = refl
+phase_back p = grind arith
 
 pub phase_byte-phase_at : (b : ℕ) → is_phase b ≡ true → phase_byte (phase_at b) ≡ b
-phase_byte-phase_at zero e = let z : ◌≡◌ {A = ℕ} 0 1 = cc in absurd (omega arith)
-phase_byte-phase_at (suc zero) e = refl
-phase_byte-phase_at (suc (suc zero)) e = refl
-phase_byte-phase_at (suc (suc (suc zero))) e = refl
-phase_byte-phase_at (suc (suc (suc (suc b)))) e = absurd (omega (arith, leb-true (suc (suc (suc (suc b)))) 3 (and_parts (leb 1 (suc (suc (suc (suc b))))) (leb (suc (suc (suc (suc b)))) 3) e).1))
+phase_byte-phase_at b e = grind (arith, nat_tests)
 
-pub flag_back : (b : Bool) → eqb (flag_byte b) 1 ≡ b
-flag_back true = refl
-flag_back false = refl
+pub flag_back : (b : Bool) → (flag_byte b == 1) ≡ b
+flag_back b = grind arith
 
-pub flag_byte-eqb : (b : ℕ) → leb b 1 ≡ true → flag_byte (eqb b 1) ≡ b
-flag_byte-eqb zero e = refl
-flag_byte-eqb (suc zero) e = refl
-flag_byte-eqb (suc (suc b)) e = absurd (omega (arith, leb-true (suc (suc b)) 1 e))
+pub flag_byte-test : (b : ℕ) → nat_le b 1 ≡ true → flag_byte (b == 1) ≡ b
+flag_byte-test b e = grind (arith, nat_tests)
 
 -- four bytes hold every number below 2 ^ 32, and the number they hold is written in them
-digits : (n q r s a b c : ℕ) → q * 256 + a ≡ n → r * 256 + b ≡ q → s * 256 + c ≡ r → s * 16777216 + c * 65536 + b * 256 + a ≡ n
-digits n q r s a b c e f g = omega arith
-
 pub number_back : (n : ℕ) → n < 4294967296 → (n / 16777216 % 256) * 16777216 + (n / 65536 % 256) * 65536 + (n / 256 % 256) * 256 + n % 256 ≡ n
-number_back n small =
-    let two : n / 65536 * 256 + n / 256 % 256 ≡ n / 256 = ap (λ q. q * 256 + n / 256 % 256) (sym (div-div-eq-div-mul n 256 256)) ∙ div-add-mod' (n / 256) 256 in
-    let three : n / 16777216 * 256 + n / 65536 % 256 ≡ n / 65536 = ap (λ q. q * 256 + n / 65536 % 256) (sym (div-div-eq-div-mul n 65536 256)) ∙ div-add-mod' (n / 65536) 256 in
-    let high : n / 16777216 % 256 ≡ n / 16777216 = mod-eq_of_lt (div_below n 16777216 256 (omega arith) small) in
-    ap (λ q. q * 16777216 + (n / 65536 % 256) * 65536 + (n / 256 % 256) * 256 + n % 256) high
-    ∙ digits n (n / 256) (n / 65536) (n / 16777216) (n % 256) (n / 256 % 256) (n / 65536 % 256) (div-add-mod' n 256) two three
+number_back n small = omega arith
 
-module _ (a b c d : ℕ) (a_byte : a < 256) (b_byte : b < 256) (c_byte : c < 256) (d_byte : d < 256) where
+module _ (a b c d : ℕ) (a_byte : Fits w8 a) (b_byte : Fits w8 b) (c_byte : Fits w8 c) (d_byte : Fits w8 d) where
   pub number_bytes : (rest : List ℕ) → four_bytes (a * 16777216 + b * 65536 + c * 256 + d) rest ≡ a ∷ b ∷ c ∷ d ∷ rest
   number_bytes rest =
       let p : (a * 16777216 + b * 65536 + c * 256 + d) / 16777216 % 256 ≡ a = omega arith in

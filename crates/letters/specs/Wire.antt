@@ -1,5 +1,5 @@
 -- The 32 bytes of a letter: how it is written, what is wrong with bytes that are no letter's, and what reading answers.
-use Rattle.std.specs.Prelude.{◌≡◌, ℕ, T, List, length, drop, Some, None, Ok, Err, Option, Result, ◌==◌, ◌≢◌}
+use Rattle.std.specs.Prelude.{◌≡◌, ℕ, IsTrue, List, length, drop, Some, None, Ok, Err, Option, Result, ◌==◌, ◌≢◌}
 use Rattle.std.specs.Option.{ok_or, unwrap_or}
 use Rattle.refusals.specs.Choice.{if_so, exact, wrong_at}
 use Rattle.orders.specs.Fault.{unreadable_at}
@@ -9,7 +9,7 @@ use Rattle.letters.specs.declared.fault.LetterFault.{LetterFault}
 use Rattle.letters.specs.declared.fault.LetterFault.TheVariants.{Garbled, Order}
 use Rattle.letters.specs.declared.letter.Content.{Content}
 use Rattle.letters.specs.declared.letter.Letter.{Letter}
-use Rattle.letters.specs.declared.letter.wire.Head.{Head}
+use Rattle.letters.specs.declared.head.Head.{Head}
 
 -- what a letter of these parts says besides its estimate
 abbrev pub head_for : {V : Type 0} → (size sender round : ℕ) → Content V → Head
@@ -32,7 +32,7 @@ abbrev pub first_wrong : ℕ → List ℕ → Option ℕ
 first_wrong wide bytes = wrong_at (length bytes == 32) 32 (head_wrong wide bytes)
 
 -- the letter with this head, which keeps the rules, and this estimate
-abbrev pub letter_as : {V : Type 0} (h : Head) → V → T (head_fits h) → Letter V
+abbrev pub letter_as : {V : Type 0} (h : Head) → V → IsTrue (head_fits h) → Letter V
 letter_as h v fits = record {
   size = h.size;
   sender = h.sender;

@@ -2,9 +2,10 @@
 #![tactic(auto)]
 
 mod fault;
+mod head;
 mod letter;
 mod phase;
 
 pub use fault::LetterFault;
 pub use letter::{Content, Letter};
-pub use phase::Phase;
+pub use phase::{Phase, UnknownPhase};

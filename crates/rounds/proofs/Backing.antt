@@ -1,6 +1,6 @@
 -- Validity: what is decided was proposed, and an accepted set of controllers made proposals that rank no higher.
 use Rattle.std.proofs.Common.{◌≡◌, ℕ, ◌<◌, ◌≤◌, Bool, true, false, ◌≢◌, ◌⊎◌, Some, None, Option, sym, refl, ap, ◌∙◌, subst, inl, inr, ⊎_elim, arith}
-use Rattle.std.proofs.lemmas.Bool.{both_ways, cases_lt}
+use Rattle.std.proofs.lemmas.Bool.{cases_lt}
 use Rattle.letters.specs.declared.letter.Content.{Content}
 use Rattle.letters.specs.declared.phase.Phase.TheVariants.{Prepare, Decide}
 use Rattle.voting.specs.Voting.{Quorum}
@@ -48,7 +48,7 @@ module _ {V : Type 0} (g : Course V) where
   passes_over : (v : V) (i : ℕ) → over_test v (g.past.proposal i) ≡ true → Over v i
   passes_over v i pass = by (g.past.proposal i) refl pass where
     by : (o : Option V) → g.past.proposal i ≡ o → over_test v o ≡ true → Over v i
-    by None is e = absurd (both_ways false refl e)
+    by None is e = absurd cc
     by (Some p) is e = (p, is, e)
 
   -- v is good if it ranks at least as high as the proposals of a quorum
@@ -73,7 +73,7 @@ module _ {V : Type 0} (g : Course V) where
         light : (told : ℕ) (v : V) → Weighty (initial told v) → ⊥
         light told v (inl isnt) = isnt refl
         light told v (inr (inl lt)) = omega arith
-        light told v (inr (inr yea)) = both_ways false refl yea
+        light told v (inr (inr yea)) = cc
 
   -- what comes of a round in which all that was seen is sound
   module _ (k i : ℕ) (own c : Content V) (seen : (s : ℕ) (d : Content V) → Sees g i k own s d → Sound s d) where

@@ -1,7 +1,7 @@
 -- A worked example, computed: three controllers propose the lamps 4, 7 and 2 and vote by majority. All are told the leader 0,
 -- who keeps every letter, and whose letters the others keep. Four rounds are settled: what the promise of a decision asks for
 -- can be had.
-use Rattle.std.proofs.Common.{◌≡◌, ℕ, zero, suc, ◌-◌, ◌<◌, ◌≤◌, Bool, true, false, ◌||◌, eqb, [], ◌∷◌, Some, None, Option, refl, ap, ◌∙◌, inr, ⊎_elim, add-one, arith}
+use Rattle.std.proofs.Common.{◌≡◌, ℕ, zero, suc, ◌-◌, ◌<◌, ◌≤◌, Bool, true, false, ◌||◌, ◌==◌, [], ◌∷◌, Some, None, Option, refl, ap, ◌∙◌, inr, ⊎_elim, add-one, arith}
 use Rattle.std.proofs.lemmas.Bool.{both_ways, or_right, cases_lt}
 use Rattle.letters.specs.declared.letter.Content.{Content}
 use Rattle.letters.specs.declared.phase.Phase.{Phase}
@@ -13,13 +13,12 @@ use Rattle.voting.specs.Rules.{majority}
 use Rattle.voting.specs.Sets.{has, whole}
 use Rattle.voting.specs.AllOnes.{majority_lawful}
 use Rattle.voting.specs.Members.{absent, whole_has, whole_lt}
-use Rattle.rounds.specs.History.{History, Lawful, account_of}
+use Rattle.rounds.specs.History.{EveryHistory, History, Lawful, account_of}
 use Rattle.rounds.specs.Next.{next}
 use Rattle.rounds.specs.Promises.{Stayer, Settled}
 use Rattle.rounds.specs.Terms as terms
 use Rattle.rounds.specs.Terms.{Terms, terms_of}
 use Rattle.rounds.proofs.Plays.{letters, play, play_lawful, goes_on}
-use Rattle.rounds.proofs.Presence.{no_letter}
 use Rattle.rounds.proofs.Promises.{promises}
 
 abbrev three : Terms LampNumber
@@ -32,7 +31,7 @@ proposal (suc (suc zero)) = lamp_of 2
 proposal (suc (suc (suc i))) = None
 
 abbrev kept : ℕ → ℕ → ℕ → Bool
-kept i k s = eqb i 0 || eqb s 0
+kept i k s = (i == 0) || (s == 0)
 
 -- the letters of a round, by their makers
 abbrev made : ℕ → ℕ → Option (Content LampNumber)
@@ -71,7 +70,7 @@ within : (i : ℕ) (v : LampNumber) → proposal i ≡ Some v → i < 3
 within zero v e = omega arith
 within (suc zero) v e = omega arith
 within (suc (suc zero)) v e = omega arith
-within (suc (suc (suc i))) v e = no_letter e
+within (suc (suc (suc i))) v e = absurd cc
 
 abides : Lawful example three
 abides = play_lawful three proposal kept (λ i k. 0) (λ i. 5) within
@@ -94,7 +93,7 @@ settled : (k : ℕ) → 1 ≤ k → k ≤ 4 → Settled three (account_of exampl
 settled k from to =
     record {
       led = λ c stays. finishes c (k - 1) (stayer_member c stays) (omega arith);
-      hears = λ c stays other. or_right (eqb c 0) true refl;
+      hears = λ c stays other. or_right (c == 0) true refl;
       heard = (
         whole 3,
         refl,
@@ -111,6 +110,7 @@ settled k from to =
 
 -- so the promise says what was computed: all three have decided
 all_decided : (i : ℕ) → i < 3 → (v : LampNumber) × (account_of example).Decided i v
+unfolding EveryHistory
 all_decided i member =
     let laws : terms.Lawful three = record { kind = lamp_lawful; rule = majority_lawful 3 (omega arith) } in
     (promises three laws example abides).decision 1 0 (omega arith) (0, finishes 0 4 (omega arith) (omega arith))

@@ -1,12 +1,13 @@
 -- What is gathered is present, and greatest: no timestamp is later, and at that timestamp no estimate ranks higher.
-use Rattle.std.proofs.Common.{◌≡◌, ℕ, zero, suc, ◌<◌, ◌≤◌, Bool, true, false, cond, ◌&&◌, eqb, ltb, Some, None, Option, sym, refl, ap, ◌∙◌, subst, ⊎_elim, arith}
-use Rattle.std.proofs.lemmas.Bool.{and_cases, and_parts, both_ways, cases_lt, eqb-false, eqb-true, ltb-false, ltb-true, or_cases, or_parts}
+use Rattle.std.proofs.Common.{◌≡◌, ℕ, zero, suc, ◌<◌, ◌≤◌, Bool, true, false, if◌then◌else◌, ◌==◌, nat_lt, Some, None, Option, sym, refl, ap, ◌∙◌, subst, ⊎_elim, arith}
+use Rattle.std.proofs.lemmas.Bool.{cases_lt}
+use Rattle.std.proofs.lemmas.Bool.Decides.{nat_tests}
 use Rattle.letters.specs.declared.letter.Content.{Content}
 use Rattle.orders.specs.Kinds.{Meaning, Lawful}
 use Rattle.rounds.specs.Next.{View, present, precedes, foremost, gathered}
 use Rattle.rounds.specs.Outcomes.{Present, Within, Greatest}
 use Rattle.rounds.specs.Terms.{Terms}
-use Rattle.rounds.proofs.Presence.{no_letter, same_letter, own_present}
+use Rattle.rounds.proofs.Presence.{same_letter, own_present}
 
 module _ {V : Type 0} (kind : Meaning V) (laws : Lawful kind) where
   -- the first letter has no earlier a timestamp than the second, and where it has the same it ranks at least as high
@@ -31,41 +32,29 @@ module _ {V : Type 0} (kind : Meaning V) (laws : Lawful kind) where
   -- the two tests of `precedes`, of which the second is made at equal timestamps
   module _ (c b : Content V) where
     abbrev later : Bool
-    later = ltb b.timestamp c.timestamp
+    later = nat_lt b.timestamp c.timestamp
 
     abbrev equal : Bool
-    equal = eqb c.timestamp b.timestamp
+    equal = c.timestamp == b.timestamp
 
     abbrev higher : Bool
     higher = kind.ranks c.estimate b.estimate
 
     before : precedes kind c b ≡ true → Tops c b
     before e =
-        ⊎_elim (λ so. let lt = ltb-true b.timestamp c.timestamp so in (omega arith, λ same. absurd (omega arith)))
-        (λ both.
-        let parts = and_parts equal higher both in
-        let same = eqb-true c.timestamp b.timestamp parts.0 in
-        (omega arith, λ also. parts.1))
-        (or_cases later (equal && higher) e)
+        (grind (arith, nat_tests), λ same. grind (arith, nat_tests))
 
     not_before : precedes kind c b ≡ false → Tops b c
     not_before e =
-        let parts = or_parts later (equal && higher) e in (
-          ltb-false b.timestamp c.timestamp parts.0,
-          λ same.
-              ⊎_elim (λ other. absurd (eqb-false c.timestamp b.timestamp other same))
-              (λ lower.
-              ⊎_elim (λ so. absurd (both_ways higher lower so)) (λ so. so) (laws.total c.estimate b.estimate))
-              (and_cases equal higher parts.1),
-        )
+        let one = laws.total c.estimate b.estimate in (grind (arith, nat_tests), λ same. grind (arith, nat_tests))
 
   -- of two letters the foremost tops both, and is one of them
   foremost_tops : (b : Content V) (o : Option (Content V))
       → Tops (foremost kind b o) b × ((c : Content V) → o ≡ Some c → Tops (foremost kind b o) c)
-  foremost_tops b None = (tops_itself b, λ c e. no_letter e)
+  foremost_tops b None = (tops_itself b, λ c e. absurd cc)
   foremost_tops b (Some d) = here (precedes kind d b) refl where
     here : (x : Bool) → precedes kind d b ≡ x
-        → Tops (cond x d b) b × ((c : Content V) → Some d ≡ Some c → Tops (cond x d b) c)
+        → Tops (if x then d else b) b × ((c : Content V) → Some d ≡ Some c → Tops (if x then d else b) c)
     here true e = (before d b e, λ c is. subst (Tops d) (same_letter refl is) (tops_itself d))
     here false e = (tops_itself b, λ c is. subst (Tops b) (same_letter refl is) (not_before d b e))
 
@@ -73,7 +62,7 @@ module _ {V : Type 0} (kind : Meaning V) (laws : Lawful kind) where
       → P b → ((c : Content V) → o ≡ Some c → P c) → P (foremost kind b o)
   foremost_either P b None pb po = pb
   foremost_either P b (Some d) pb po = here (precedes kind d b) where
-    here : (x : Bool) → P (cond x d b)
+    here : (x : Bool) → P (if x then d else b)
     here true = po d refl
     here false = pb
 

@@ -1,10 +1,10 @@
 -- A round gives what the relations say: one outcome, by the first test that holds, and no other.
-use Rattle.std.proofs.Common.{◌≡◌, ℕ, Bool, true, false, ◌&&◌, eqb, ◌↔◌, Some, None, Option, sym, refl, ap, ◌∙◌, subst, arith}
-use Rattle.std.proofs.lemmas.Bool.{and_from, and_parts, both_ways, cond-false, cond-true, eqb-true, eq-eqb}
+use Rattle.std.proofs.Common.{◌≡◌, ℕ, Bool, true, false, ◌==◌, ◌↔◌, Some, None, Option, sym, refl, ap, ◌∙◌, arith}
+use Rattle.std.proofs.lemmas.Bool.Decides.{nat_tests}
 use Rattle.letters.specs.declared.letter.Content.{Content}
 use Rattle.letters.specs.declared.phase.Phase.TheVariants.{Commit}
 use Rattle.orders.specs.Kinds as kinds
-use Rattle.rounds.specs.Next.{View, is_commit, is_decide, present, senders, first_decide, backed, reached, followed}
+use Rattle.rounds.specs.Next.{View, is_commit, present, senders, first_decide, backed, reached, followed}
 use Rattle.rounds.specs.Next.{undecided, next}
 use Rattle.rounds.specs.Outcomes.{Outcome, adopts, reaches, follows, prepares, Within, Backed, NoDecide}
 use Rattle.rounds.specs.Outcomes.{Adopts, Reaches, Follows, Ends, Ended, Gives}
@@ -41,30 +41,19 @@ module _ {V : Type 0} (terms : Terms V) (laws : kinds.Lawful terms.kind) (view :
 
   self_backed : (backed terms view ≡ true) ↔ Backed terms view (λ c. c.leader ≡ view.self)
   self_backed =
-      senders_backed terms view within (λ c. eqb c.leader view.self) (λ c. c.leader ≡ view.self)
-      (λ c. (eqb-true c.leader view.self, eq-eqb c.leader view.self))
-
-  -- the three tests of `reached`
-  abbrev own_commit : Bool
-  own_commit = is_commit view.own.phase
-
-  abbrev own_approved : Bool
-  own_approved = view.own.approved
-
-  abbrev enough : Bool
-  enough = terms.accepts (senders terms view (λ c. is_commit c.phase))
+      senders_backed terms view within (λ c. c.leader == view.self) (λ c. c.leader ≡ view.self)
+      (λ c. (λ is. grind (arith, nat_tests), λ is. grind (arith, nat_tests)))
 
   reached_so : reached terms view ≡ true → Reaches terms view
   reached_so e =
-      let parts = and_parts own_commit (own_approved && enough) e in
-      let rest = and_parts own_approved enough parts.1 in
-      record { commit = commits view.own.phase parts.0; approved = rest.0; backed = commits_backed.0 rest.1 }
+      record { commit = grind arith; approved = grind arith; backed = commits_backed.0 (grind arith) }
 
   not_reached : reached terms view ≡ false → Reaches terms view → ⊥
   not_reached e so =
-      both_ways (reached terms view) e
-      (and_from own_commit (own_approved && enough) (ap is_commit so.commit)
-      (and_from own_approved enough so.approved (commits_backed.1 so.backed)))
+      let commit = so.commit in
+      let approved = so.approved in
+      let enough = commits_backed.1 so.backed in
+      grind arith
 
   followed_so : (c : Content V) → followed terms view ≡ Some c → Follows terms view c.estimate
   followed_so c e =
@@ -74,7 +63,8 @@ module _ {V : Type 0} (terms : Terms V) (laws : kinds.Lawful terms.kind) (view :
   not_followed : followed terms view ≡ None → (v : V) → Follows terms view v → ⊥
   not_followed e v so =
       let not_approved = passing_none (λ d. d.approved) (present view view.own.leader) so.letter e so.there in
-      both_ways so.letter.approved not_approved so.approved
+      let approved = so.approved in
+      cc
 
   module _ (round told : ℕ) where
     -- any two outcomes are one, with one thing to say
@@ -132,9 +122,8 @@ module _ {V : Type 0} (terms : Terms V) (laws : kinds.Lawful terms.kind) (view :
     unfolding next
     round_gives =
         record {
-          decided = λ is. cond-true (is_decide view.own.phase) view.own _ (ap is_decide is);
+          decided = λ is. rw is;
           undecided = λ isnt.
               let test = phases.undecided view.own.phase isnt in
-              subst (Ended terms view round told) (sym (cond-false (is_decide view.own.phase) view.own _ test))
-              (ended (first_decide terms view terms.size) (reached terms view) (followed terms view) refl refl refl);
+              rw test (ended (first_decide terms view terms.size) (reached terms view) (followed terms view) refl refl refl);
         }

@@ -1,6 +1,7 @@
 -- What is present in a round: the own letter, the lowest DECIDE, and the senders who pass a test.
-use Rattle.std.proofs.Common.{◌≡◌, ℕ, zero, suc, ◌<◌, ◌≤◌, Bool, true, false, cond, eqb, ◌≢◌, ◌↔◌, Some, None, Option, sym, refl, ap, ◌∙◌, ⊎_elim, arith}
-use Rattle.std.proofs.lemmas.Bool.{both_ways, cases_lt, cond-true, eq-eqb}
+use Rattle.std.proofs.Common.{◌≡◌, ℕ, zero, suc, ◌<◌, ◌≤◌, Bool, true, false, ◌≢◌, ◌↔◌, Some, None, Option, refl, ap, ◌∙◌, ⊎_elim, arith}
+use Rattle.std.proofs.lemmas.Bool.{cases_lt}
+use Rattle.std.proofs.lemmas.Bool.Decides.{nat_tests}
 use Rattle.std.specs.Option.{option_or}
 use Rattle.letters.specs.declared.letter.Content.{Content}
 use Rattle.letters.specs.declared.phase.Phase.TheVariants.{Decide}
@@ -10,38 +11,24 @@ use Rattle.rounds.specs.Outcomes.{Present, Within, Backed, NoDecide, Adopts}
 use Rattle.rounds.specs.Terms.{Terms}
 use Rattle.rounds.proofs.Phases.{decides, not_decides}
 
--- a letter that is not there says nothing
-pub no_letter : {A B : Type 0} {x : A} → None ≡ Some x → B
-no_letter e = let z : ◌≡◌ {A = ℕ} 0 1 = cc in absurd (omega arith)
-
 -- two letters of one sender say the same
 pub same_letter : {A : Type 0} {o : Option A} {x y : A} → o ≡ Some x → o ≡ Some y → x ≡ y
 same_letter a b = cc
 
 module _ {V : Type 0} (test : Content V → Bool) where
   pub passing_some : (o : Option (Content V)) (c : Content V) → passing test o ≡ Some c → (o ≡ Some c) × (test c ≡ true)
-  passing_some None c e = no_letter e
-  passing_some (Some d) c e = here (test d) refl e where
-    here : (b : Bool) → test d ≡ b → cond b (Some d) None ≡ Some c → (Some d ≡ Some c) × (test c ≡ true)
-    here true pass same = (same, ap test (sym (same_letter refl same)) ∙ pass)
-    here false pass same = no_letter same
+  passing_some o c e = (grind arith, grind arith)
 
   pub passing_none : (o : Option (Content V)) (c : Content V) → passing test o ≡ None → o ≡ Some c → test c ≡ false
-  passing_none None c e is = no_letter is
-  passing_none (Some d) c e is = here (test d) refl e where
-    here : (b : Bool) → test d ≡ b → cond b (Some d) None ≡ None → test c ≡ false
-    here true pass same = no_letter (sym same)
-    here false pass same = ap test (sym (same_letter refl is)) ∙ pass
+  passing_none o c e is = grind arith
 
   passes_some : (o : Option (Content V)) → passes test o ≡ true → (c : Content V) × (o ≡ Some c) × (test c ≡ true)
-  passes_some None e = absurd (both_ways false refl e)
+  passes_some None e = absurd cc
   passes_some (Some c) e = (c, refl, e)
 
 module _ {V : Type 0} (terms : Terms V) (view : View V) where
   pub own_present : Present terms view view.self view.own
-  own_present =
-      cond-true (eqb view.self view.self) (Some view.own) (view.others view.self)
-      (eq-eqb view.self view.self refl)
+  own_present = grind (arith, nat_tests)
 
   -- the lowest sender's DECIDE is the first one found, and none is found just where none is there
   module _ (n : ℕ) where
@@ -61,10 +48,10 @@ module _ {V : Type 0} (terms : Terms V) (view : View V) where
     by : (o : Option (Content V)) → first_decide terms view n ≡ o → option_or o (here n) ≡ None
         → (first_decide terms view n ≡ None → s < n → Present terms view s c → c.phase ≢ Decide) → c.phase ≢ Decide
     by None is none below = ⊎_elim (λ lower. below is lower there) (at_last none) (cases_lt s n)
-    by (Some d) is none below = no_letter (sym none)
+    by (Some d) is none below = absurd cc
 
   first_adopts : (n : ℕ) (c : Content V) → first_decide terms view n ≡ Some c → Adopts terms view c.estimate
-  first_adopts zero c e = no_letter e
+  first_adopts zero c e = absurd cc
   first_adopts (suc n) c e = by (first_decide terms view n) refl e (first_adopts n c) where
     by : (o : Option (Content V)) → first_decide terms view n ≡ o → option_or o (here n) ≡ Some c
         → (first_decide terms view n ≡ Some c → Adopts terms view c.estimate) → Adopts terms view c.estimate

@@ -1,6 +1,7 @@
 -- Decision: four settled rounds under one leader make the leader decide in the third, and all others in the fourth.
-use Rattle.std.proofs.Common.{◌≡◌, ℕ, zero, suc, ◌+◌, ◌-◌, true, eqb, ◌≢◌, sym, refl, ap, ◌∙◌, subst, inl, inr, ⊎_elim, arith}
-use Rattle.std.proofs.lemmas.Bool.{cases_eq, eqb-true, eq-eqb}
+use Rattle.std.proofs.Common.{◌≡◌, ℕ, zero, suc, ◌+◌, ◌-◌, true, ◌==◌, ◌≢◌, sym, refl, ap, ◌∙◌, subst, inl, inr, ⊎_elim, arith}
+use Rattle.std.proofs.lemmas.Bool.{cases_eq}
+use Rattle.std.proofs.lemmas.Bool.Decides.{nat_tests}
 use Rattle.letters.specs.declared.letter.Content.{Content}
 use Rattle.letters.specs.declared.phase.Phase.TheVariants.{Commit, Decide}
 use Rattle.voting.specs.Voting.{Quorum}
@@ -58,8 +59,8 @@ module _ {V : Type 0} (g : Course V) where
     approves : (k : ℕ) (e : Content V) → Calm k → Made g l (suc (suc k)) e → e.phase ≢ Decide → e.approved ≡ true
     approves k e round made isnt = by (quiet g l (suc k) e (omega arith) made isnt) where
       by : Quiet g l (suc k) e → e.approved ≡ true
-      by q = q.approved.1 (backed_by g l (suc k) q.own q.mine (λ d. eqb d.leader l) (λ d. d.leader ≡ l)
-          (λ d. (eqb-true d.leader l, eq-eqb d.leader l)) _ round.heard named) where
+      by q = q.approved.1 (backed_by g l (suc k) q.own q.mine (λ d. d.leader == l) (λ d. d.leader ≡ l)
+          (λ d. (λ is. grind (arith, nat_tests), λ is. grind (arith, nat_tests))) _ round.heard named) where
             named : (s : ℕ) → Stays s × Gets g l (suc k) s
                 → (d : Content V) × Sees g l (suc k) q.own s d × (d.leader ≡ l)
             named s (stays, gets) =

@@ -1,6 +1,6 @@
 -- A round of a history, as the relations have it, and induction over rounds.
-use Rattle.std.proofs.Common.{◌≡◌, ℕ, zero, suc, ◌≤◌, Bool, true, false, cond, eqb, ◌≢◌, ◌⊎◌, ◌↔◌, Some, None, sym, ap, ◌∙◌, subst, inl, inr, ⊎_elim, add-one, arith}
-use Rattle.std.proofs.lemmas.Bool.{cases_Bool, cond-false, cond-true, eqb-true}
+use Rattle.std.proofs.Common.{◌≡◌, ℕ, zero, suc, ◌≤◌, Bool, true, ◌≢◌, ◌⊎◌, ◌↔◌, Some, sym, ap, ◌∙◌, subst, inl, inr, ⊎_elim, add-one, arith}
+use Rattle.std.proofs.lemmas.Bool.Decides.{nat_tests}
 use Rattle.letters.specs.declared.letter.Content.{Content}
 use Rattle.letters.specs.declared.phase.Phase.TheVariants.{Prepare, Commit, Decide}
 use Rattle.voting.specs.Voting.{Quorum}
@@ -13,7 +13,7 @@ use Rattle.rounds.specs.Outcomes.{Reaches, Follows, Greatest, Ends, Ended, Gives
 use Rattle.rounds.specs.Terms.{Terms, Lawful}
 use Rattle.rounds.proofs.Outcomes.{round_gives}
 use Rattle.rounds.proofs.Phases.{decide_or_not}
-use Rattle.rounds.proofs.Presence.{no_letter, same_letter, own_present, senders_backed}
+use Rattle.rounds.proofs.Presence.{own_present, senders_backed}
 
 -- a lawful history of a group on lawful terms
 pub record Course (V : Type 0) : Type 0 where
@@ -46,36 +46,11 @@ module _ {V : Type 0} (g : Course V) where
     module _ (mine : Made i k own) where
       -- what it sees was made for the round
       pub seen_made : (s : ℕ) (d : Content V) → Sees s d → Made s k d
-      seen_made s d there = ⊎_elim itself another (cases_Bool (eqb s i)) where
-        itself : eqb s i ≡ true → Made s k d
-        itself same =
-            let own_d : own ≡ d = same_letter (cond-true (eqb s i) (Some own) (sight.others s) same) there in
-            ap (λ x. g.past.made x k) (eqb-true s i same) ∙ mine ∙ ap Some own_d
-
-        kept_made : (b : Bool) → cond b (g.past.made s k) None ≡ Some d → Made s k d
-        kept_made true e = e
-        kept_made false e = no_letter e
-
-        another : eqb s i ≡ false → Made s k d
-        another other =
-            kept_made (g.past.kept i k s) (sym (cond-false (eqb s i) (Some own) (sight.others s) other) ∙ there)
+      seen_made s d there = grind (arith, nat_tests)
 
       -- and it sees what was made for the round where it gets it
       pub made_seen : (s : ℕ) (d : Content V) → Gets i k s → Made s k d → Sees s d
-      made_seen s d gets made = ⊎_elim itself another gets where
-        itself : s ≡ i → Sees s d
-        itself same =
-            let own_d : own ≡ d = same_letter mine (ap (λ x. g.past.made x k) (sym same) ∙ made) in
-            ap (present sight) same ∙ sees_itself ∙ ap Some own_d
-
-        another : g.past.kept i k s ≡ true → Sees s d
-        another kept =
-            ⊎_elim (λ same. itself (eqb-true s i same))
-            (λ other.
-            cond-false (eqb s i) (Some own) (sight.others s) other
-            ∙ cond-true (g.past.kept i k s) (g.past.made s k) None kept
-            ∙ made)
-            (cases_Bool (eqb s i))
+      made_seen s d gets made = grind (arith, nat_tests)
 
       within : Within g.terms sight
       within s c there = (g.abides.maker s k c (seen_made s c there)).0

@@ -1,6 +1,5 @@
 -- Timestamps stay below their round; and in a round at most one undecided controller is approved, so all its commits agree.
 use Rattle.std.proofs.Common.{◌≡◌, ℕ, zero, suc, ◌<◌, ◌≤◌, true, ◌≢◌, sym, ap, ◌∙◌, ⊎_elim, arith}
-use Rattle.std.proofs.lemmas.Bool.{both_ways}
 use Rattle.letters.specs.declared.letter.Content.{Content}
 use Rattle.letters.specs.declared.phase.Phase.TheVariants.{Prepare, Commit, Decide}
 use Rattle.voting.proofs.Quorums.{quorums_meet}
@@ -51,7 +50,9 @@ module _ {V : Type 0} (g : Course V) where
   one_speaker : (k i j : ℕ) (c d : Content V) → Voice k i c → Voice k j d → i ≡ j
   one_speaker zero i j c d a b = absurd (omega (arith, (g.abides.maker i 0 c a.made).1))
   one_speaker (suc zero) i j c d a b =
-      absurd (both_ways c.approved (ap (λ x. x.approved) (g.abides.first i c a.made).2) a.approved)
+      let not_yet = ap (λ x. x.approved) (g.abides.first i c a.made).2 in
+      let approved = a.approved in
+      cc
   one_speaker (suc (suc k)) i j c d a b =
       let p = quiet g i (suc k) c (omega arith) a.made a.undecided in
       let q = quiet g j (suc k) d (omega arith) b.made b.undecided in

@@ -1,5 +1,5 @@
 -- Round histories: what the controllers of a group made for each round, whatever the order in which it came about.
-use Rattle.std.specs.Prelude.{◌≡◌, ℕ, ◌+◌, ◌<◌, ◌≤◌, Bool, true, cond, Some, None, Option}
+use Rattle.std.specs.Prelude.{◌≡◌, ℕ, ◌+◌, ◌<◌, ◌≤◌, Bool, true, if◌then◌else◌, Some, None, Option}
 use Rattle.letters.specs.declared.letter.Content.{Content}
 use Rattle.letters.specs.declared.phase.Phase.TheVariants.{Decide}
 use Rattle.rounds.specs.Next.{View, initial, next}
@@ -20,7 +20,7 @@ pub record History (V : Type 0) : Type 0 where
 module _ {V : Type 0} (h : History V) where
   -- what a controller has before it as it finishes a round in which its own letter says this
   abbrev pub view_of : (controller round : ℕ) → Content V → View V
-  view_of i k own = record { self = i; own = own; others = λ s. cond (h.kept i k s) (h.made s k) None }
+  view_of i k own = record { self = i; own = own; others = λ s. if h.kept i k s then h.made s k else None }
 
   -- what a history tells: who makes a letter for a round has finished the one before, and has decided what its DECIDE says
   abbrev pub account_of : Account V
@@ -45,7 +45,7 @@ module _ {V : Type 0} (h : History V) where
         → (own : Content V) × (h.made i k ≡ Some own) × (c ≡ next terms (view_of i k own) k (h.told i k))
 
 -- a promise holds of what every lawful history tells
-abbrev pub EveryHistory : {V : Type 0} → (Terms V → Account V → Type 0) → Terms V → Type 0
+unfoldable pub EveryHistory : {V : Type 0} → (Terms V → Account V → Type 0) → Terms V → Type 0
 EveryHistory {V} promise terms = (h : History V) → Lawful h terms → promise terms (account_of h)
 
 -- no course of events is left out: whatever controllers of the group propose, keep and are told, and however many rounds

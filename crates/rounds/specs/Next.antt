@@ -1,5 +1,5 @@
 -- One round of one controller: what it makes for the next round, from what is present in this one.
-use Rattle.std.specs.Prelude.{ℕ, zero, suc, Bool, true, false, cond, ◌&&◌, ◌||◌, Some, None, Option, ◌==◌, nat_eq, nat_lt}
+use Rattle.std.specs.Prelude.{ℕ, zero, suc, Bool, true, false, if◌then◌else◌, ◌&&◌, ◌||◌, Some, None, Option, ◌==◌, nat_eq, nat_lt}
 use Rattle.std.specs.Option.{option_or}
 use Rattle.letters.specs.declared.letter.Content.{Content}
 use Rattle.letters.specs.declared.phase.Phase.{Phase}
@@ -34,7 +34,7 @@ pub record View (V : Type 0) : Type 0 where
 
 -- by sender, what the letters present in the round say: its own and those of the others
 abbrev pub present : {V : Type 0} → View V → ℕ → Option (Content V)
-present view s = cond (s == view.self) (Some view.own) (view.others s)
+present view s = if s == view.self then Some view.own else view.others s
 
 -- whether there is a letter, and it passes a test
 abbrev pub passes : {V : Type 0} → (Content V → Bool) → Option (Content V) → Bool
@@ -44,7 +44,7 @@ passes test (Some c) = test c
 -- a letter, if it is there and passes a test
 abbrev pub passing : {V : Type 0} → (Content V → Bool) → Option (Content V) → Option (Content V)
 passing test None = None
-passing test (Some c) = cond (test c) (Some c) None
+passing test (Some c) = if test c then Some c else None
 
 -- whether a letter comes before another as the ground of the next estimate: timestamps first, rank second
 abbrev pub precedes : {V : Type 0} → Meaning V → Content V → Content V → Bool
@@ -54,7 +54,7 @@ precedes kind c d =
 -- of two letters, of which the second may not be there, the one that comes first
 abbrev pub foremost : {V : Type 0} → Meaning V → Content V → Option (Content V) → Content V
 foremost kind best None = best
-foremost kind best (Some c) = cond (precedes kind c best) c best
+foremost kind best (Some c) = if precedes kind c best then c else best
 
 module _ {V : Type 0} (terms : Terms V) (view : View V) where
   -- the senders whose present letters pass a test
@@ -98,4 +98,4 @@ module _ {V : Type 0} (terms : Terms V) (view : View V) where
 
     -- what it makes for the next round; one that has decided says the same again
     unfoldable pub next : Content V
-    next = cond (is_decide view.own.phase) view.own (undecided (first_decide terms.size) reached followed)
+    next = if is_decide view.own.phase then view.own else undecided (first_decide terms.size) reached followed

@@ -20,28 +20,12 @@ pub fn group_of<K: Kind, R: VotingRule>(rule: &R) -> u8
     ensures rounds { EveryRound (terms_of K.meaning (R.group rule.now) (R.accepted rule.now)) }
     ensures plays { EveryPlay (terms_of K.meaning (R.group rule.now) (R.accepted rule.now)) }
 {
-    size_of::<K, R>(rule)
-}
-
-/// Whether the rule's group is of a size for which its laws are owed. Then every history of the group keeps the promises.
-pub fn owes_promises<K: Kind, R: VotingRule>(rule: &R) -> bool
-    ensures value { result ≡ sized (R.group rule.now) }
-    ensures promises { result ≡ true → EveryHistory Promises (terms_of K.meaning (R.group rule.now) (R.accepted rule.now)) }
-{
-    has_laws::<K, R>(rule)
-}
-
-/// The size that the rule answers. The theorems on rounds hold of a rule of any size.
-fn size_of<K: Kind, R: VotingRule>(rule: &R) -> u8
-    ensures value { result ≡ R.group rule.now }
-    ensures rounds { EveryRound (terms_of K.meaning (R.group rule.now) (R.accepted rule.now)) }
-    ensures plays { EveryPlay (terms_of K.meaning (R.group rule.now) (R.accepted rule.now)) }
-{
     rule.size()
 }
 
-/// Whether the rule owes its laws. The theorems on histories need these, and the kind's.
-fn has_laws<K: Kind, R: VotingRule>(rule: &R) -> bool
+/// Whether the rule's group is of a size for which its laws are owed. Then every history of the group keeps the promises.
+#[tactic(auto, using(crate::proofs::Promises::promises_of))]
+pub fn owes_promises<K: Kind, R: VotingRule>(rule: &R) -> bool
     ensures value { result ≡ sized (R.group rule.now) }
     ensures promises { result ≡ true → EveryHistory Promises (terms_of K.meaning (R.group rule.now) (R.accepted rule.now)) }
 {
