@@ -1,10 +1,10 @@
 -- Bytes in hexadecimal: two digits each, the high one first, with the letters a to f.
-use Rattle.std.specs.Prelude.{ℕ, ◌+◌, ◌-◌, ◌*◌, cond, ◌&&◌, List, [], ◌∷◌, ◌++◌, Some, None, Option, nat_le}
+use Rattle.std.specs.Prelude.{ℕ, ◌+◌, ◌-◌, ◌*◌, ◌&&◌, List, [], ◌∷◌, ◌++◌, Some, None, Option, nat_le, if◌then◌else◌}
 use Rattle.std.specs.Bool.{then_some}
 
 -- the value of a digit, where it is one
 abbrev pub digit_of : ℕ → Option ℕ
-digit_of c = cond (nat_le 48 c && nat_le c 57) (Some (c - 48)) (then_some (nat_le 97 c && nat_le c 102) (c - 97 + 10))
+digit_of c = if nat_le 48 c && nat_le c 57 then Some (c - 48) else then_some (nat_le 97 c && nat_le c 102) (c - 97 + 10)
 
 -- bytes in front of what follows, where anything does
 abbrev pub before : List ℕ → Option (List ℕ) → Option (List ℕ)

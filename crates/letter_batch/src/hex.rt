@@ -1,4 +1,4 @@
-//! Bytes in hexadecimal.
+//! Bytes in hexadecimal, in small letters alone: the toolchain's `hex` would take capitals too, and so answer other lines.
 ghost use Rattle.std.specs.Prelude.{◌≡◌, IfOk, vec_items};
 ghost use Rattle.std.specs.Option.{option_map};
 ghost use Rattle.letter_batch.specs.Hex.{digit_of, unhex};

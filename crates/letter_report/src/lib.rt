@@ -1,42 +1,33 @@
 //! What the bytes of one letter hold, in words: line by line for a person, or in one line for a comparison.
 #![tactic(auto)]
 
-ghost use Rattle.std.specs.Prelude.{◌≡◌, IfOk, string_bytes, Decides};
-ghost use Rattle.letters.specs.Fault.{letter_refusal};
-ghost use Rattle.letters.specs.Wire.{letter_bytes};
-ghost use Rattle.letter_report.specs.Report.{refusal_text, claims_order};
+ghost use Rattle.std.specs.Prelude.{◌≡◌, IfOk, string_bytes};
+ghost use Rattle.letter_report.specs.Report.{report, brief};
 
-use letters::{Letter, LetterFault};
-use orders::Kind;
+mod summary;
+
 use std::alloc::{AllocError, Global};
+use summary::{Line, Lines, summarize};
 
-mod full;
-mod short;
-
-pub use full::report;
-pub use short::brief;
-
-/// A refusal as programs print it.
-pub(crate) fn refusal_text(heap: Global, fault: LetterFault) -> Result<String, AllocError>
-    ensures { IfOk result (λ s. string_bytes s ≡ refusal_text (letter_refusal fault)) }
+/// What the bytes hold, each field on a line, and that writing gives the same bytes. They are read for the kind whose width
+/// they claim; any width but a lamp order's is read as a lamp number's. Fails only for want of memory.
+pub fn report(heap: Global, bytes: &[u8]) -> Result<String, AllocError>
+    ensures { IfOk result (λ s. string_bytes s ≡ report bytes.now) }
 {
-    let refusal = fault.refusal();
-    let number = refusal.reason.number();
-    let place = refusal.place;
-    format!(in heap; "refused {number} {place}")
+    let count = bytes.len();
+    match summarize(heap, bytes)? {
+        Ok(summary) => format!(in heap; "read {count} bytes\n{}", Lines(&summary)),
+        Err(refusal) => format!(in heap; "read {count} bytes\n{refusal}\n"),
+    }
 }
 
-/// Whether writing the letter gives these bytes.
-pub(crate) fn gives<K: Kind>(letter: &Letter<K>, bytes: &[u8]) -> bool
-    ensures { Decides result (letter_bytes K.meaning letter.now ≡ bytes.now) }
+/// The fields of the letter that the bytes hold in one line, or the refusal, for the kind whose width they claim.
+/// Fails only for want of memory.
+pub fn brief(heap: Global, bytes: &[u8]) -> Result<String, AllocError>
+    ensures { IfOk result (λ s. string_bytes s ≡ brief bytes.now) }
 {
-    let written = letter.write();
-    &written[..] == bytes
-}
-
-/// Whether the bytes claim the width of a lamp order.
-pub(crate) fn claims_order(bytes: &[u8]) -> bool
-    ensures { result ≡ claims_order bytes.now }
-{
-    bytes.len() > 5 && bytes[5] == 6
+    match summarize(heap, bytes)? {
+        Ok(summary) => format!(in heap; "{}", Line(&summary)),
+        Err(refusal) => format!(in heap; "{refusal}"),
+    }
 }

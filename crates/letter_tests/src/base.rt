@@ -1,6 +1,7 @@
 //! One right letter of each kind, and how the tables change it.
 use letters::{Letter, LetterFault};
 use orders::{Kind, LampNumber, LampOrder};
+use refusals::Refusal;
 use std::process::Abort;
 
 /// A letter with lamp 7 for its estimate.
@@ -27,13 +28,8 @@ pub(crate) const FITS: Answer = None;
 
 /// The answer that a result stands for.
 pub(crate) fn answer<T: Drop>(res: Result<T, LetterFault>) -> Answer {
-    match res {
-        Ok(_) => FITS,
-        Err(fault) => {
-            let refusal = fault.refusal();
-            Some((refusal.reason.number(), refusal.place))
-        }
-    }
+    let refusal = Refusal::from(res.err()?);
+    Some((u8::from(refusal.reason), refusal.place))
 }
 
 /// The bytes are answered as expected, and a letter that reads is written as the same bytes.
@@ -49,6 +45,7 @@ pub(crate) fn check_letter<K: Kind>(rt: &impl Abort, bytes: &[u8; 32], expected:
 pub(crate) type Row<'a> = (&'a [(usize, u8)], Answer);
 
 /// Another byte at a place.
+// A twin of `with` in the tests of orders, as `answer` is: a crate for both would be longer than they are.
 fn put(bytes: &mut [u8; 32], place: usize, byte: u8) {
     if let Some(old) = bytes.get_mut(place) {
         *old = byte;

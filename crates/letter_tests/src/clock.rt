@@ -1,15 +1,9 @@
 //! Rounds are 1 to 1,000,000. The timestamp of COMMIT is the round before, so it needs round 2; that of PREPARE and
 //! DECIDE is at least two rounds back, but that PREPARE in round 1 has 0.
 use crate::base::{Answer, FITS, NUMBER, ORDER, check_both, check_letter};
+use letters::Phase;
 use orders::{LampNumber, LampOrder};
 use std::process::Abort;
-
-// The types, as they are sent.
-const PREPARE: u8 = 1;
-
-const COMMIT: u8 = 2;
-
-const DECIDE: u8 = 3;
 
 /// The refusal of a round.
 const NO_ROUND: Answer = Some((5, 8));
@@ -18,12 +12,12 @@ const NO_ROUND: Answer = Some((5, 8));
 const OFF_TIME: Answer = Some((5, 12));
 
 /// A type, a round and a timestamp, and how a letter with these is answered.
-type Row = (u8, u32, u32, Answer);
+type Row = (Phase, u32, u32, Answer);
 
 /// The letter with this type, round and timestamp.
-fn at(base: &[u8; 32], phase: u8, round: u32, timestamp: u32) -> [u8; 32] {
+fn at(base: &[u8; 32], phase: Phase, round: u32, timestamp: u32) -> [u8; 32] {
     let mut bytes = *base;
-    bytes[0] = phase;
+    bytes[0] = u8::from(phase);
     bytes[8..12].copy_from_slice(&round.to_be_bytes());
     bytes[12..16].copy_from_slice(&timestamp.to_be_bytes());
     bytes
@@ -42,16 +36,16 @@ fn rounds_are_1_to_1_000_000(rt: HostRuntime) {
     check_clocks(
         &rt,
         &[
-            (PREPARE, 0, 0, NO_ROUND),
-            (PREPARE, 1, 0, FITS),
-            (PREPARE, 1_000_000, 999_998, FITS),
-            (COMMIT, 1_000_000, 999_999, FITS),
-            (DECIDE, 1_000_000, 999_998, FITS),
-            (PREPARE, 1_000_001, 999_999, NO_ROUND),
-            (COMMIT, 1_000_001, 1_000_000, NO_ROUND),
-            (DECIDE, 1_000_001, 999_999, NO_ROUND),
-            (PREPARE, u32::MAX, 0, NO_ROUND),
-            (COMMIT, u32::MAX, u32::MAX - 1, NO_ROUND),
+            (Phase::Prepare, 0, 0, NO_ROUND),
+            (Phase::Prepare, 1, 0, FITS),
+            (Phase::Prepare, 1_000_000, 999_998, FITS),
+            (Phase::Commit, 1_000_000, 999_999, FITS),
+            (Phase::Decide, 1_000_000, 999_998, FITS),
+            (Phase::Prepare, 1_000_001, 999_999, NO_ROUND),
+            (Phase::Commit, 1_000_001, 1_000_000, NO_ROUND),
+            (Phase::Decide, 1_000_001, 999_999, NO_ROUND),
+            (Phase::Prepare, u32::MAX, 0, NO_ROUND),
+            (Phase::Commit, u32::MAX, u32::MAX - 1, NO_ROUND),
         ],
     );
 }
@@ -61,11 +55,11 @@ fn timestamps_of_the_first_round(rt: HostRuntime) {
     check_clocks(
         &rt,
         &[
-            (PREPARE, 1, 0, FITS),
-            (PREPARE, 1, 1, OFF_TIME),
-            (COMMIT, 1, 0, OFF_TIME),
-            (COMMIT, 1, 1, OFF_TIME),
-            (DECIDE, 1, 0, OFF_TIME),
+            (Phase::Prepare, 1, 0, FITS),
+            (Phase::Prepare, 1, 1, OFF_TIME),
+            (Phase::Commit, 1, 0, OFF_TIME),
+            (Phase::Commit, 1, 1, OFF_TIME),
+            (Phase::Decide, 1, 0, OFF_TIME),
         ],
     );
 }
@@ -75,26 +69,26 @@ fn timestamps_of_later_rounds(rt: HostRuntime) {
     check_clocks(
         &rt,
         &[
-            (PREPARE, 2, 0, FITS),
-            (PREPARE, 2, 1, OFF_TIME),
-            (COMMIT, 2, 0, OFF_TIME),
-            (COMMIT, 2, 1, FITS),
-            (DECIDE, 2, 0, FITS),
-            (DECIDE, 2, 1, OFF_TIME),
-            (PREPARE, 5, 3, FITS),
-            (PREPARE, 5, 4, OFF_TIME),
-            (COMMIT, 5, 3, OFF_TIME),
-            (COMMIT, 5, 4, FITS),
-            (COMMIT, 5, 5, OFF_TIME),
-            (DECIDE, 5, 3, FITS),
-            (DECIDE, 5, 4, OFF_TIME),
+            (Phase::Prepare, 2, 0, FITS),
+            (Phase::Prepare, 2, 1, OFF_TIME),
+            (Phase::Commit, 2, 0, OFF_TIME),
+            (Phase::Commit, 2, 1, FITS),
+            (Phase::Decide, 2, 0, FITS),
+            (Phase::Decide, 2, 1, OFF_TIME),
+            (Phase::Prepare, 5, 3, FITS),
+            (Phase::Prepare, 5, 4, OFF_TIME),
+            (Phase::Commit, 5, 3, OFF_TIME),
+            (Phase::Commit, 5, 4, FITS),
+            (Phase::Commit, 5, 5, OFF_TIME),
+            (Phase::Decide, 5, 3, FITS),
+            (Phase::Decide, 5, 4, OFF_TIME),
         ],
     );
 }
 
 #[test]
 fn nothing_wraps(rt: HostRuntime) {
-    for phase in [PREPARE, COMMIT, DECIDE] {
+    for phase in [Phase::Prepare, Phase::Commit, Phase::Decide] {
         for round in [1, 2, 5, 1_000_000] {
             check_clocks(
                 &rt,

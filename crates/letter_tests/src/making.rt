@@ -2,6 +2,8 @@
 use crate::base::{Answer, FITS, NUMBER, ORDER, answer};
 use letters::{Content, Letter, LetterFault, Phase};
 use orders::{Character, Kind, LampNumber, LampOrder};
+use std::fmt::Debug;
+use std::process::Abort;
 use std::test::Fail;
 
 /// The parts that the rules of a letter bind: size, sender, leader, type, round and timestamp.
@@ -61,13 +63,23 @@ fn letters_are_made_within_the_same_limits(rt: HostRuntime) -> Result<(), Fail> 
 /// The parts of both right letters.
 const RIGHT: Parts = (4, 2, 1, Phase::Prepare, 5, 3);
 
+/// The letter of the right parts and this estimate, and these bytes, are each the other's.
+fn check_right<K: Kind + PartialEq + Debug>(
+    rt: &impl Abort,
+    estimate: K,
+    bytes: &[u8; 32],
+) -> Result<(), LetterFault> {
+    let letter = made(RIGHT, estimate)?;
+    let read = Letter::<K>::read(bytes)?;
+    assert_eq!(rt; read.write(), *bytes);
+    assert_eq!(rt; letter.write(), *bytes);
+    assert_eq!(rt; read, letter);
+    Ok(())
+}
+
 #[test]
 fn a_letter_with_a_lamp_number(rt: HostRuntime) -> Result<(), Fail> {
-    let letter = made(RIGHT, LampNumber::new(7)?)?;
-    let read = Letter::<LampNumber>::read(&NUMBER)?;
-    assert_eq!(rt; read.write(), NUMBER);
-    assert_eq!(rt; letter.write(), NUMBER);
-    assert_eq!(rt; read, letter);
+    check_right(&rt, LampNumber::new(7)?, &NUMBER)?;
     Ok(())
 }
 
@@ -77,10 +89,7 @@ fn a_letter_with_a_lamp_order(rt: HostRuntime) -> Result<(), Fail> {
         count: 2,
         period: 100,
     };
-    let letter = made(RIGHT, LampOrder::new(5, LampNumber::new(3)?, character)?)?;
-    let read = Letter::<LampOrder>::read(&ORDER)?;
-    assert_eq!(rt; read.write(), ORDER);
-    assert_eq!(rt; letter.write(), ORDER);
-    assert_eq!(rt; read, letter);
+    let order = LampOrder::new(5, LampNumber::new(3)?, character)?;
+    check_right(&rt, order, &ORDER)?;
     Ok(())
 }
