@@ -37,7 +37,6 @@ impl Model for Summary {
 }
 
 impl Summary {
-    ghost use Rattle.std.specs.Prelude.{◌≡◌, IfOk};
     ghost use Rattle.letters.specs.Wire.{letter_bytes};
     ghost use Rattle.letter_report.specs.Report.{fields_of};
 

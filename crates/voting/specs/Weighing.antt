@@ -58,6 +58,6 @@ module _ (row : List ℕ) where
         strangers = refuses_strangers (length row) (outweighs row) (λ s yea. (parts s yea).0);
       }
 
--- weights that can vote are not all zero
+-- a rule by weights that can vote keeps the four laws, since they are not all zero
 pub row_lawful : (row : List ℕ) → IsTrue (can_vote row) → Lawful (length row) (outweighs row)
 row_lawful row can = outweighs_lawful row (grind (arith, nat_tests))
