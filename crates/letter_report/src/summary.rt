@@ -1,5 +1,6 @@
 //! What a letter says, whatever the kind of its estimate.
-ghost use Rattle.std.specs.Prelude.{◌≡◌, IfOk, if◌then◌else◌};
+ghost use Rattle.std.specs.Prelude.{◌≡◌, IfOk, Decides, if◌then◌else◌};
+ghost use Rattle.letters.specs.Wire.{letter_bytes};
 ghost use Rattle.letter_report.specs.Report.{claims_order, summary_as, summary_of};
 
 use letters::{Letter, Phase};
@@ -37,7 +38,6 @@ impl Model for Summary {
 }
 
 impl Summary {
-    ghost use Rattle.letters.specs.Wire.{letter_bytes};
     ghost use Rattle.letter_report.specs.Report.{fields_of};
 
     /// What a letter says, which was read from these bytes.
@@ -60,7 +60,7 @@ impl Summary {
             round: letter.round,
             timestamp: letter.content.timestamp,
             estimate,
-            same: &letter.write()[..] == bytes,
+            same: gives(letter, bytes),
         })
     }
 }
@@ -200,6 +200,14 @@ pub(crate) fn summarize_as<K: Printable>(
         Ok(letter) => Ok(Ok(Summary::new(heap, &letter, bytes)?)),
         Err(fault) => Ok(Err(Refusal::from(fault))),
     }
+}
+
+/// Whether writing the letter gives these bytes.
+// A function of its own, since `Summary::new` knows the answer and would take any flag that is true for a comparison.
+fn gives<K: Kind>(letter: &Letter<K>, bytes: &[u8]) -> bool
+    ensures { Decides result (letter_bytes K.meaning letter.now ≡ bytes.now) }
+{
+    &letter.write()[..] == bytes
 }
 
 /// One of two texts, by a flag.
