@@ -44,8 +44,8 @@ abbrev Covers : ℕ → ℕ → Type 0
 Covers a b = (i : ℕ) → has a i ≡ true → has b i ≡ true
 
 -- where a member of a is one of b, its bit in a is no greater
-bit_at-le : (a b i : ℕ) → Covers a b → bit_at a i ≤ bit_at b i
-bit_at-le a b i up = grind (arith, nat_tests, bit_at-lt a i, up i)
+bit_at-le : (a b i : ℕ) → (has a i ≡ true → has b i ≡ true) → bit_at a i ≤ bit_at b i
+bit_at-le a b i up = grind (arith, nat_tests, bit_at-lt a i, up)
 
 half_covers : (a b : ℕ) → Covers a b → Covers (a / 2) (b / 2)
 half_covers a b up i there = grind (arith, has-half a i, has-half b i, up (suc i))
@@ -54,8 +54,8 @@ pub under_members : (n a b : ℕ) → a < 2 ^ n → b < 2 ^ n → Covers a b →
 unfolding Under
 under_members zero a b la lb up = omega arith
 under_members (suc n) a b la lb up =
-    (rw (bit_at_lowest a, bit_at_lowest b) at (bit_at-le a b 0 up), under_members n (a / 2) (b / 2) (half_lt n a la) (half_lt n b lb) (half_covers a b up))
+    (rw (bit_at_lowest a, bit_at_lowest b) at (bit_at-le a b 0 (up 0)), under_members n (a / 2) (b / 2) (half_lt n a la) (half_lt n b lb) (half_covers a b up))
 
 -- two sets with the same members are equal
 pub same_members : (a b : ℕ) → Covers a b → Covers b a → a ≡ b
-same_members a b up down = same_from_bits a b (λ i. omega (arith, bit_at-le a b i up, bit_at-le b a i down))
+same_members a b up down = same_from_bits a b (λ i. omega (arith, bit_at-le a b i (up i), bit_at-le b a i (down i)))

@@ -5,31 +5,32 @@ use Rattle.std.proofs.lemmas.Iterator.{YieldsList-from_map, YieldsList-from_slic
 use Rattle.std.proofs.lemmas.Iterator.Consumers.{fits_by_from_yields_list, sum_by_from_yields_List, YieldsList-from_filter, YieldsList-at}
 use Rattle.std.specs.List.{filter, zip, range_with_len}
 use Rattle.voting.specs.Sets.{has}
+use Rattle.voting.specs.Voting.{limit}
 use Rattle.voting.proofs.Rows.{sum-le, sum_by-picked, weigh_from-le-sum}
 use Rattle.voting.proofs.row.weigh.Goals as goal
 
 pub sum-requires-clause-fits : goal.sum-requires-clause-fits
 sum-requires-clause-fits c =
-    fits_by_from_yields_list (λ p. p.1) (filter (λ p. has c.args.set p.0) (zip (range_with_len 0 8) c.args.weights.now)) c.map.result 4294967296
+    fits_by_from_yields_list (λ p. p.1) (filter (λ p. has c.args.set p.0) (zip (range_with_len 0 limit) c.args.weights.now)) c.map.result 4294967296
     (YieldsList-from_map _ (λ p. p.1)
     (YieldsList-at c.map.ensures.source (YieldsList-from_filter _ (λ p. has c.args.set p.0)
-    (YieldsList-from_zip (YieldsList-from_range 0 8 8 (cc) refl) (YieldsList-from_slice c.args.weights.now cc))
+    (YieldsList-from_zip (YieldsList-from_range 0 limit limit (cc) refl) (YieldsList-from_slice c.args.weights.now cc))
     c.filter.ensures.closure (λ x r q k. search rules)))
     c.map.ensures.closure (λ x r q k. search rules))
     (omega (
       arith,
-      sum_by-picked 0 8 c.args.set c.args.weights.now c.told-weights,
+      sum_by-picked 0 limit c.args.set c.args.weights.now c.told-weights,
       weigh_from-le-sum 0 c.args.set c.args.weights.now,
       sum-le c.args.weights.now c.fits-weights,
     ))
 
 pub returns : goal.returns
 returns c =
-    sum_by_from_yields_List (λ p. p.1) (filter (λ p. has c.args.set p.0) (zip (range_with_len 0 8) c.args.weights.now)) c.map.result c.sum.result
+    sum_by_from_yields_List (λ p. p.1) (filter (λ p. has c.args.set p.0) (zip (range_with_len 0 limit) c.args.weights.now)) c.map.result c.sum.result
     c.sum.ensures.ran
     (YieldsList-from_map _ (λ p. p.1)
     (YieldsList-at c.map.ensures.source (YieldsList-from_filter _ (λ p. has c.args.set p.0)
-    (YieldsList-from_zip (YieldsList-from_range 0 8 8 (cc) refl) (YieldsList-from_slice c.args.weights.now cc))
+    (YieldsList-from_zip (YieldsList-from_range 0 limit limit (cc) refl) (YieldsList-from_slice c.args.weights.now cc))
     c.filter.ensures.closure (λ x r q k. search rules)))
     c.map.ensures.closure (λ x r q k. search rules))
-    ∙ sum_by-picked 0 8 c.args.set c.args.weights.now c.told-weights
+    ∙ sum_by-picked 0 limit c.args.set c.args.weights.now c.told-weights
