@@ -16,11 +16,6 @@ light-padded zero [] = refl
 light-padded (suc k) [] = light-padded k []
 light-padded k (w ∷ ws) = grind (arith, light-padded k ws)
 
-weigh_from-padded : (i s k : ℕ) (ws : List ℕ) → weigh_from i s (ws ++ replicate k 0) ≡ weigh_from i s ws
-weigh_from-padded i s zero [] = refl
-weigh_from-padded i s (suc k) [] = grind (arith, weigh_from-padded (suc i) s k [])
-weigh_from-padded i s k (w ∷ ws) = grind (arith, weigh_from-padded (suc i) s k ws)
-
 module _ (n : ℕ) (ws : List ℕ) (kept : ws ≡ padded (take n ws)) where
   pub light-front : light (take n ws) ≡ light ws
   light-front = sym (ap light kept ∙ light-padded (limit - length (take n ws)) (take n ws))
@@ -34,28 +29,32 @@ module _ (n : ℕ) (ws : List ℕ) (kept : ws ≡ padded (take n ws)) where
         sum_by-replicate (λ w. w) (limit - length (take n ws)) 0,
       )
 
-  pub weigh_from-front : (s : ℕ) → weigh_from 0 s (take n ws) ≡ weigh_from 0 s ws
-  weigh_from-front s = sym (ap (weigh_from 0 s) kept ∙ weigh_from-padded 0 s (limit - length (take n ws)) (take n ws))
-
 -- members weigh no more than all together
 pub weigh_from-le-sum : (i s : ℕ) (ws : List ℕ) → weigh_from i s ws ≤ sum ws
 weigh_from-le-sum i s [] = omega arith
 weigh_from-le-sum i s (w ∷ ws) = grind (arith, weigh_from-le-sum (suc i) s ws, sum_by-cons (λ x. x) w ws)
 
 -- what the array of a row tells of its weights
-pub ruleset fronts = (length-front, light-front, sum-front, weigh_from-front, weigh_from-le-sum)
+pub ruleset fronts = (length-front, light-front, sum-front, weigh_from-le-sum)
 
 -- of weights with their places, those that pass a test are added
 picked-cons : (p : ℕ × ℕ → Bool) (x : ℕ × ℕ) (xs : List (ℕ × ℕ)) → sum_by (λ y. y.1) (filter p (x ∷ xs)) ≡ (if p x then x.1 else 0) + sum_by (λ y. y.1) (filter p xs)
 picked-cons p x xs = grind (arith, sum_by-cons (λ (y : ℕ × ℕ). y.1) x (filter p xs))
 
-pub sum_by-picked : (i n s : ℕ) (ws : List ℕ) → length ws ≡ n → sum_by (λ p. p.1) (filter (λ p. has s p.0) (zip (range_with_len i n) ws)) ≡ weigh_from i s ws
-sum_by-picked i zero s [] long = refl
-sum_by-picked i (suc n) s [] long = refl
-sum_by-picked i zero s (w ∷ ws) long = cc
-sum_by-picked i (suc n) s (w ∷ ws) long =
+pub sum_by-picked : (i n s : ℕ) (ws : List ℕ) → sum_by (λ p. p.1) (filter (λ p. has s p.0) (zip (range_with_len i n) ws)) ≡ weigh_from i s (take n ws)
+sum_by-picked i zero s [] = refl
+sum_by-picked i (suc n) s [] = refl
+sum_by-picked i zero s (w ∷ ws) = refl
+sum_by-picked i (suc n) s (w ∷ ws) =
     picked-cons (λ p. has s p.0) (i, w) (zip (range_with_len (i + 1) n) ws)
-    ∙ ap (λ x. (if has s i then w else 0) + x) (sum_by-picked (i + 1) n s ws (omega arith) ∙ ap (λ k. weigh_from k s ws) (add-one i))
+    ∙ ap (λ x. (if has s i then w else 0) + x) (sum_by-picked (i + 1) n s ws ∙ ap (λ k. weigh_from k s (take n ws)) (add-one i))
+
+-- the first weights weigh no more than all
+pub sum-take-le : (n : ℕ) (ws : List ℕ) → sum (take n ws) ≤ sum ws
+sum-take-le zero [] = omega arith
+sum-take-le (suc n) [] = omega arith
+sum-take-le zero (w ∷ ws) = omega arith
+sum-take-le (suc n) (w ∷ ws) = omega (arith, sum-take-le n ws, sum_by-cons (λ x. x) w ws, sum_by-cons (λ x. x) w (take n ws))
 
 pub sum-le : (ws : List ℕ) → ((i : ℕ) → get_or ws i 0 < 65536) → sum ws ≤ length ws * 65535
 sum-le ws small = sum_by-le (λ w. w) 65535 ws (All-from_get_or (λ w. w ≤ 65535) ws 0 (λ i lt. omega (arith, small i)))

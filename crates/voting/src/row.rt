@@ -1,5 +1,5 @@
 //! The weights of a group's controllers, kept as one value.
-ghost use Rattle.std.specs.Prelude.{◌≡◌, ◌*◌, ◌≤◌, length, Some, None, if◌then◌else◌, sum};
+ghost use Rattle.std.specs.Prelude.{◌≡◌, ◌*◌, ◌≤◌, length, take, Some, None, if◌then◌else◌, sum};
 ghost use Rattle.voting.specs.Rules.{weigh_from, light, outweighs, fair};
 ghost use Rattle.voting.specs.Voting.{limit, sized};
 
@@ -74,7 +74,7 @@ impl Row {
     pub(crate) fn outweighs(&self, set: Members) -> bool
         ensures { result ≡ outweighs self.now set }
     {
-        within(set, self.size) && total(&self.weights) < 2 * weigh(&self.weights, set)
+        within(set, self.size) && total(&self.weights) < 2 * weigh(&self.weights, self.size, set)
     }
 }
 
@@ -93,11 +93,12 @@ fn total(weights: &[u16; ROOM]) -> u32
     weights.iter().map(|weight| u32::from(*weight)).sum()
 }
 
-/// The sum of the members' weights.
-fn weigh(weights: &[u16; ROOM], set: Members) -> u32
-    ensures { result ≡ weigh_from 0 set weights.now }
+/// The sum of the members' weights, of which only the first `size` count.
+fn weigh(weights: &[u16; ROOM], size: u8, set: Members) -> u32
+    ensures value { result ≡ weigh_from 0 set (take size weights.now) }
+    ensures bound { result ≤ sum weights.now }
 {
-    (0..LIMIT)
+    (0..size)
         .zip(weights)
         .filter(|(member, _)| has(set, *member))
         .map(|(_, weight)| u32::from(*weight))
