@@ -94,6 +94,7 @@ fn total(weights: &[u16; ROOM]) -> u32
 }
 
 /// The sum of the members' weights, of which only the first `size` count.
+// Not a method of `Row`: that the sum fits is proved from what is known of an array that is a parameter.
 fn weigh(weights: &[u16; ROOM], size: u8, set: Members) -> u32
     ensures value { result ≡ weigh_from 0 set (take size weights.now) }
     ensures bound { result ≤ sum weights.now }

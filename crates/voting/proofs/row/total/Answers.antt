@@ -1,4 +1,4 @@
--- Eight weights of 16 bits fit.
+-- As many weights of 16 bits as the largest group has fit.
 use Rattle.std.proofs.Common.{◌≡◌, sum, rules, arith}
 use Rattle.std.proofs.iter.runs.Made.{chains}
 use Rattle.std.proofs.lemmas.Iterator.{YieldsList-from_map, YieldsList-from_slice}

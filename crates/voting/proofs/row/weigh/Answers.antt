@@ -1,5 +1,5 @@
--- The members' weights are summed place by place, and weigh no more than all. The chain stands in both answers: a lemma for the
--- two would have to name the types of its iterators and closures, and be longer than what it saves.
+-- The members' weights are summed place by place, and weigh no more than all. The chain stands in two answers: a lemma for them
+-- would have to name the types of its iterators and closures, and be longer than what it saves.
 use Rattle.std.proofs.Common.{◌≡◌, ◌∙◌, rules, arith}
 use Rattle.std.proofs.lemmas.Iterator.{YieldsList-from_map, YieldsList-from_slice, YieldsList-from_zip, YieldsList-from_range}
 use Rattle.std.proofs.lemmas.Iterator.Consumers.{fits_by_from_yields_list, sum_by_from_yields_List, YieldsList-from_filter, YieldsList-at}
